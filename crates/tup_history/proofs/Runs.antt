@@ -122,15 +122,15 @@ module _ (old new : MemSite) (next : Next) where
   idle_keeps on same known Begun kept = kept_on old new next (λ v w. ⊥) (λ v w left none. absurd none) on (ap (λ (v : World). v.tree) same) known kept
 
 -- every run, by what its words ask for
-pub run_keeps : (tells : Bool) (next : Next) (wanted : Wanted) (end : End) (status : Status) (ran : List RuleName) (old new : MemSite) → end.status ≡ Some status → Leaves wanted old new status → NothingDone wanted (world_in old) (world_in new) → ForInit wanted status (Begins (world_in old) (world_in new)) →
-    (IsTrue tells → IsKept next old → Updates next wanted old new status ran) → (stage : Stage) → Stands next stage old → BehindRun tells next wanted (world_in old) (world_in new) end stage (λ later. Stands next later new)
-run_keeps tells next (Ok (Upd program keep_going quiet verbose explain)) end status ran old new is leaves nothing begins updates Unbegun kept = unbegun_keeps old new next (leaves.closed tt) kept
-run_keeps tells next (Ok (Upd program keep_going quiet verbose explain)) end status ran old new is leaves nothing begins updates Begun kept = λ means.
+pub run_keeps : (tells : Bool) (next : Next) (many : ℕ) (wanted : Wanted) (end : End) (status : Status) (ran : List RuleName) (old new : MemSite) → end.status ≡ Some status → Leaves wanted old new status → NothingDone wanted (world_in old) (world_in new) → ForInit wanted status (Begins (world_in old) (world_in new)) →
+    (IsTrue tells → IsKept next old → Updates next many wanted old new status ran) → (stage : Stage) → Stands next stage old → BehindRun tells next wanted (world_in old) (world_in new) end stage (λ later. Stands next later new)
+run_keeps tells next many (Ok (Upd program keep_going quiet verbose explain jobs)) end status ran old new is leaves nothing begins updates Unbegun kept = unbegun_keeps old new next (leaves.closed tt) kept
+run_keeps tells next many (Ok (Upd program keep_going quiet verbose explain jobs)) end status ran old new is leaves nothing begins updates Begun kept = λ means.
     let by = updates means kept in
     (subst (Builds next (world_in old) (world_in new)) (sym is) by.files, by.kept tt)
-run_keeps tells next (Ok Todo) end status ran old new is leaves nothing begins updates Unbegun kept = unbegun_keeps old new next (leaves.closed tt) kept
-run_keeps tells next (Ok Todo) end status ran old new is leaves nothing begins updates Begun kept = λ means. (updates means kept).kept tt
-run_keeps tells next (Ok Init) end status ran old new is leaves nothing begins updates stage kept = init_keeps old new next end status is leaves nothing begins stage kept
-run_keeps tells next (Ok Verify) end status ran old new is leaves nothing begins updates stage kept = compare_keeps old new next status leaves nothing stage kept
-run_keeps tells next (Ok Demo) end status ran old new is leaves nothing begins updates stage kept = idle_keeps old new next (leaves.quiet (λ no. no)) nothing (leaves.known (λ no. no)) stage kept
-run_keeps tells next (Err place) end status ran old new is leaves nothing begins updates stage kept = idle_keeps old new next (leaves.quiet (λ no. no)) nothing (leaves.known (λ no. no)) stage kept
+run_keeps tells next many (Ok Todo) end status ran old new is leaves nothing begins updates Unbegun kept = unbegun_keeps old new next (leaves.closed tt) kept
+run_keeps tells next many (Ok Todo) end status ran old new is leaves nothing begins updates Begun kept = λ means. (updates means kept).kept tt
+run_keeps tells next many (Ok Init) end status ran old new is leaves nothing begins updates stage kept = init_keeps old new next end status is leaves nothing begins stage kept
+run_keeps tells next many (Ok Verify) end status ran old new is leaves nothing begins updates stage kept = compare_keeps old new next status leaves nothing stage kept
+run_keeps tells next many (Ok Demo) end status ran old new is leaves nothing begins updates stage kept = idle_keeps old new next (leaves.quiet (λ no. no)) nothing (leaves.known (λ no. no)) stage kept
+run_keeps tells next many (Err place) end status ran old new is leaves nothing begins updates stage kept = idle_keeps old new next (leaves.quiet (λ no. no)) nothing (leaves.known (λ no. no)) stage kept

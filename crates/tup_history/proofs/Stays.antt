@@ -20,8 +20,8 @@ use Rattle.tup_history.proofs.Runs.{run_keeps}
 
 -- a larger promise
 run_on : (tells : Bool) (next : Next) (wanted : Wanted) (old new : World) (end : End) (stage : Stage) (P Q : Stage → Type 0) → ((later : Stage) → P later → Q later) → BehindRun tells next wanted old new end stage P → BehindRun tells next wanted old new end stage Q
-run_on tells next (Ok (Upd program keep_going quiet verbose explain)) old new end Unbegun P Q on p = on Unbegun p
-run_on tells next (Ok (Upd program keep_going quiet verbose explain)) old new end Begun P Q on p = λ means. let is = p means in (is.0, on Begun is.1)
+run_on tells next (Ok (Upd program keep_going quiet verbose explain jobs)) old new end Unbegun P Q on p = on Unbegun p
+run_on tells next (Ok (Upd program keep_going quiet verbose explain jobs)) old new end Begun P Q on p = λ means. let is = p means in (is.0, on Begun is.1)
 run_on tells next (Ok Todo) old new end Unbegun P Q on p = on Unbegun p
 run_on tells next (Ok Todo) old new end Begun P Q on p = λ means. on Begun (p means)
 run_on tells next (Ok Init) old new end Unbegun P Q on p = λ done. on Begun (p done)
@@ -41,7 +41,7 @@ turn_keeps tells next (Deed (Edit path content)) end from to takes stage kept = 
 turn_keeps tells next (Deed (Crash choice)) end from to takes stage kept = crash_keeps choice from.site to.site takes.ends.done next stage kept
 turn_keeps tells next (Run words stop_after) end from to takes stage kept =
     let ran : BehindRun tells next (order words) (world_in takes.begun) (world_in takes.ended) end stage (λ later. Stands next later takes.ended) =
-    run_keeps tells next (order words) end takes.status end.ran takes.begun takes.ended takes.answered takes.leaves takes.keeps.nothing_done takes.keeps.begins takes.updates stage
+    run_keeps tells next (length from.runners) (order words) end takes.status end.ran takes.begun takes.ended takes.answered takes.leaves takes.keeps.nothing_done takes.keeps.begins takes.updates stage
     (stands_still from.site takes.begun takes.begins.first takes.begins.changes takes.begins.world next stage kept) in
     subst (λ (w : World). BehindRun tells next (order words) w (world_in to.site) end stage (λ later. Stands next later to.site)) takes.begins.world
     (subst (λ (w : World). BehindRun tells next (order words) (world_in takes.begun) w end stage (λ later. Stands next later to.site)) (sym takes.goes_on.world)

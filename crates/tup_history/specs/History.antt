@@ -54,7 +54,7 @@ pub record TakesRun (tells : Bool) (next : Next) (words : List Word) (stop_after
   pub begins : Lets (left_then stop_after (left_of from.site)) from.site begun
   pub keeps : Keeps tells next (order words) (world_in begun) (world_in ended) (counted begun from) (counted ended to) status end.ran
   pub leaves : Leaves (order words) begun ended status
-  pub updates : IsTrue tells → IsKept next begun → Updates next (order words) begun ended status end.ran
+  pub updates : IsTrue tells → IsKept next begun → Updates next (length from.runners) (order words) begun ended status end.ran
   pub goes_on : Lets (left_behind stop_after (left_of ended)) ended to.site
   pub moment : end.moment ≡ moment_of to.site
   pub answered : end.status ≡ Some status

@@ -10,6 +10,8 @@ use crate::deed::do_deed;
 use crate::run::{begin, go_on, run};
 use crate::turn::{End, Turn};
 use std::alloc::Global;
+use std::sync::Wait;
+use std::thread::Threads;
 use tup_path::Items;
 use tup_runner::Runner;
 use tup_site::{Deed, MemRefused, MemSite};
@@ -29,10 +31,11 @@ pub struct Lived<R> {
     pub refused: Option<(usize, MemRefused)>,
 }
 
-/// Carries out turns one after another, up to the first that is refused; the first runner of the
-/// crew runs the commands, and each run prints its lines to `out`. The room for all ends is taken
+/// Carries out turns one after another, up to the first that is refused; the runners of the crew run
+/// the commands, and each run prints its lines to `out`. The room for all ends is taken
 /// before the first turn: without it this one is refused. A crew has 1 to 16 runners.
-pub fn history<R: Runner, K: Sink>(
+pub fn history<W: Threads + Wait + Sync, R: Runner + Send, K: Sink>(
+    rt: &W,
     alloc: Global,
     site: MemSite,
     turns: Vec<Turn>,
@@ -61,7 +64,7 @@ pub fn history<R: Runner, K: Sink>(
     }
     let mut life = Life { site, crew };
     for turn in turns {
-        let Taken { life: next, end } = take_turn(alloc, life, turn, out);
+        let Taken { life: next, end } = take_turn(rt, alloc, life, turn, out);
         life = next;
         match end {
             Ok(end) => ends.push_reserved(end),
@@ -98,7 +101,13 @@ struct Taken<R> {
 }
 
 /// Carries out a turn. After a refusal all is as before.
-fn take_turn<R: Runner, K: Sink>(alloc: Global, life: Life<R>, turn: Turn, out: &mut K) -> Taken<R>
+fn take_turn<W: Threads + Wait + Sync, R: Runner + Send, K: Sink>(
+    rt: &W,
+    alloc: Global,
+    life: Life<R>,
+    turn: Turn,
+    out: &mut K,
+) -> Taken<R>
     requires crew { IsCrew life.crew.items }
     ensures takes { let stands = standing R.faults K.faults in
         let from = stands life.site life.crew.items out.old in
@@ -114,7 +123,7 @@ fn take_turn<R: Runner, K: Sink>(alloc: Global, life: Life<R>, turn: Turn, out: 
     match turn {
         Turn::Deed(deed) => take_deed(alloc, life, deed),
         Turn::Run { words, stop_after } => {
-            let (life, end) = take_run(alloc, life, words.as_slice(), stop_after, out);
+            let (life, end) = take_run(rt, alloc, life, words.as_slice(), stop_after, out);
             Taken { life, end: Ok(end) }
         }
     }
@@ -148,7 +157,8 @@ fn take_deed<R>(alloc: Global, life: Life<R>, deed: Deed) -> Taken<R>
 }
 
 /// Runs the program.
-fn take_run<R: Runner, K: Sink>(
+fn take_run<W: Threads + Wait + Sync, R: Runner + Send, K: Sink>(
+    rt: &W,
     alloc: Global,
     life: Life<R>,
     words: &[Word],
@@ -169,7 +179,7 @@ fn take_run<R: Runner, K: Sink>(
         mut site,
         crew,
         ran,
-    } = run(alloc, words, site, crew, out);
+    } = run(rt, alloc, words, site, crew, out);
     go_on(&mut site, stop_after);
     let end = End {
         moment: site.moment(),

@@ -1,5 +1,5 @@
 //! A run of the program as a turn.
-ghost use Rattle.std.specs.Prelude.{IsTrue};
+ghost use Rattle.std.specs.Prelude.{IsTrue, length, map};
 ghost use Rattle.tup_site.specs.Memory.{world_in, faults_of, left_of};
 ghost use Rattle.tup_top.specs.Crew.{IsCrew};
 ghost use Rattle.tup_top.specs.Order.{order};
@@ -8,13 +8,16 @@ ghost use Rattle.tup_history.specs.Kept.{IsKept};
 ghost use Rattle.tup_history.specs.Run.{Keeps, Leaves, Updates, Lets, left_then, left_behind};
 
 use std::alloc::Global;
+use std::sync::Wait;
+use std::thread::Threads;
 use tup_runner::Runner;
 use tup_site::MemSite;
 use tup_tell::Sink;
 use tup_top::{Ran, Word, tup};
 
 /// Runs the program over a site that lets its calls pass or not.
-pub(crate) fn run<R: Runner, K: Sink>(
+pub(crate) fn run<W: Threads + Wait + Sync, R: Runner + Send, K: Sink>(
+    rt: &W,
     alloc: Global,
     words: &[Word],
     site: MemSite,
@@ -29,10 +32,11 @@ pub(crate) fn run<R: Runner, K: Sink>(
         result.status result.ran }
     ensures leaves { Leaves (order words.now) site result.site result.status }
     ensures updates { IsTrue R.tells → IsKept R.next site
-        → Updates R.next (order words.now) site result.site result.status result.ran }
+        → let many = length (map R.faults crew.items) in
+        Updates R.next many (order words.now) site result.site result.status result.ran }
     ensures crew { IsCrew result.crew.items }
 {
-    tup(alloc, words, site, crew, out)
+    tup(rt, alloc, words, site, crew, out)
 }
 
 /// Lets only so many more calls of the site pass, where that is said.

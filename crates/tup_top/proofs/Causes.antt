@@ -1,7 +1,8 @@
 -- How an order ends whose update came out so: what is promised of the update holds of the status that tells of it.
-use Rattle.std.proofs.Common.{◌≡◌, inl, inr, ℕ, zero, suc, Bool, true, false, List, [], ◌∷◌, Option, None, Some, refl, sym, ap, subst, ◌∙◌, append-nil, arith}
+use Rattle.std.proofs.Common.{◌≡◌, inl, inr, ℕ, zero, suc, Bool, true, false, List, [], ◌∷◌, Option, None, Some, refl, sym, ap, subst, ◌∙◌, append-nil, length, map, arith}
 use Rattle.std.specs.List.{slice_get}
 use Rattle.std.proofs.lemmas.Bool.{false≢true}
+use Rattle.std.proofs.lemmas.List.{length-map}
 use Rattle.std.proofs.lemmas.List.Sorted.{IsPermutation-refl}
 use Rattle.tup_path.specs.Count.{Rose}
 use Rattle.tup_path.specs.Name.{Names}
@@ -10,9 +11,9 @@ use Rattle.tup_site.specs.declared.site.Site.{Ghosts as Site}
 use Rattle.tup_site.specs.declared.fault.SiteFailed.TheVariants.{Fault, TooLarge, Memory as NoMemory}
 use Rattle.tup_rule.specs.declared.rule.RuleName.{RuleName}
 use Rattle.tup_access.specs.declared.verdict.Verdict.TheVariants.{Good, Failed, IllegalRead as ReadsIllegally, IllegalWrite as WritesIllegally, Unwritten as LeavesUnwritten, TooManyReads as ReadsTooOften}
-use Rattle.tup_promise.specs.Cause.{HasRunCause, HasCountedCause as StopHasCountedCause, OneRose, PassesLimit}
+use Rattle.tup_promise.specs.Cause.{CrewCountedCause, CrewRunCause, HasRunCause, HasCountedCause as StopHasCountedCause, HasSharedCause as StopHasSharedCause, OneRose, PassesLimit}
 use Rattle.tup_phases.specs.Logged.{EndsFirst, IsLogged}
-use Rattle.tup_promise.specs.Ran.{RunsThese}
+use Rattle.tup_promise.specs.Ran.{CrewRuns, RunsShare, RunsThese, share}
 use Rattle.tup_promise.specs.Unopened.{Unopened}
 use Rattle.tup_promise.specs.declared.fault.SourcesFault.{SourcesFault}
 use Rattle.tup_promise.specs.declared.fault.SourcesFault.TheVariants as sources
@@ -20,7 +21,7 @@ use Rattle.tup_promise.specs.declared.log.Log.{Log}
 use Rattle.tup_promise.specs.declared.stop.Stop.{Stop}
 use Rattle.tup_promise.specs.declared.stop.Stop.TheVariants.{NoStore, BadStore as StoreDamaged, Sources, UserFile as IsUsers, Bad, Run, Full, Outside}
 use Rattle.tup_top.specs.Lines.{lines}
-use Rattle.tup_top.specs.Promise.{Counts, AreSteady, OneFailedAtMost, HasCountedCause, Logs, OpensStore}
+use Rattle.tup_top.specs.Promise.{Counts, AreSteady, OneFailedAtMost, HasCountedCause, HasCrewCause, HasSharedCause, Logs, OpensStore}
 use Rattle.tup_top.specs.Printed.{IsDone, Ends, Prints, Told, PrintsUpdate, SaysWhyOf}
 use Rattle.tup_top.specs.Status.{status_of, status_of_sources, IfCame, after_sink_fault}
 use Rattle.tup_top.specs.declared.status.Status.{Status}
@@ -46,14 +47,28 @@ sources_undone (sources.NoSuchGroup group) done = done
 sources_undone (sources.TooManyLinks number) done = done
 sources_undone (sources.CircularCommands cycle) done = done
 
+-- what a site counts beside one runner it counts beside any
+pub shared_cause : (before now : ℕ) (stopped : Option Stop) → StopHasCountedCause before now stopped → StopHasSharedCause before now stopped
+shared_cause before now None cause = cause
+shared_cause before now (Some NoStore) cause = cause
+shared_cause before now (Some (StoreDamaged offset)) cause = cause
+shared_cause before now (Some (Sources fault)) cause = cause
+shared_cause before now (Some (IsUsers path written found)) cause = cause
+shared_cause before now (Some (Bad rule verdict)) cause = cause.1
+shared_cause before now (Some Run) cause = tt
+shared_cause before now (Some Full) cause = tt
+shared_cause before now (Some (Outside Fault)) cause = cause
+shared_cause before now (Some (Outside (TooLarge count))) cause = cause.1
+shared_cause before now (Some (Outside NoMemory)) cause = tt
+
 -- what is promised of what an update came to is promised of the status that tells of it
-pub came : (P : Option Stop → Type 0) (before now : ℕ) (log : Log) (stopped : Option Stop) → StopHasCountedCause before now stopped → P stopped → IfCame (status_of log stopped) P
+pub came : (P : Option Stop → Type 0) (before now : ℕ) (log : Log) (stopped : Option Stop) → StopHasSharedCause before now stopped → P stopped → IfCame (status_of log stopped) P
 came P before now log None cause p = p
 came P before now log (Some NoStore) cause p = p
 came P before now log (Some (StoreDamaged offset)) cause p = p
 came P before now log (Some (Sources fault)) cause p = came_of_sources P fault cause.1 p
 came P before now log (Some (IsUsers path written found)) cause p = (written, found, p)
-came P before now log (Some (Bad rule Good)) cause p = absurd (false≢true (sym cause.1))
+came P before now log (Some (Bad rule Good)) cause p = absurd (false≢true (sym cause))
 came P before now log (Some (Bad rule (Failed status))) cause p = p
 came P before now log (Some (Bad rule (ReadsIllegally text))) cause p = p
 came P before now log (Some (Bad rule (WritesIllegally text))) cause p = p
@@ -62,7 +77,7 @@ came P before now log (Some (Bad rule ReadsTooOften)) cause p = p
 came P before now log (Some Run) cause p = p
 came P before now log (Some Full) cause p = p
 came P before now log (Some (Outside Fault)) cause p = p
-came P before now log (Some (Outside (TooLarge count))) cause p = (count, cause.1, p)
+came P before now log (Some (Outside (TooLarge count))) cause p = (count, cause, p)
 came P before now log (Some (Outside NoMemory)) cause p = p
 
 -- a promise of what an update came to grows to a larger one
@@ -114,7 +129,7 @@ done_is_none log (Some (Outside NoMemory)) done = absurd done
 
 -- a promise of what an update came to is one of what is answered for it, where want of memory keeps it too
 pub answered : (P : Option Stop → Type 0) (before now old new : ℕ) (log : Log) (stopped : Option Stop) (status answer : Status) → status ≡ status_of log stopped → Ends before now status answer →
-    StopHasCountedCause old new stopped → P stopped → P (Some (Outside NoMemory)) → IfCame answer P
+    StopHasSharedCause old new stopped → P stopped → P (Some (Outside NoMemory)) → IfCame answer P
 answered P before now old new log stopped status answer is (inl e) cause p memory =
     subst (λ (s : Status). IfCame s P) (sym (e ∙ is)) (came P old new log stopped cause p)
 answered P before now old new log stopped status answer is (inr (inl e)) cause p memory =
@@ -195,6 +210,104 @@ module _ (site_before site_now run_before run_now sink_before sink_now : ℕ) wh
       subst (HasCountedCause counts_before counts_now) (sym e)
       (steady (subst (StopHasCountedCause site_before site_now) none cause) (subst (HasRunCause run_before run_now) none run), rose)
 
+-- ---- counts of a crew
+
+shared_of_sources : (before now : Counts) (fault : SourcesFault) → AreSteady before now → HasSharedCause before now (status_of_sources fault)
+shared_of_sources before now (sources.TooManyFiles number) steady = refl
+shared_of_sources before now (sources.Parse fault) steady = steady
+shared_of_sources before now (sources.CircularDirs cycle) steady = steady
+shared_of_sources before now (sources.TooManyCommands number) steady = refl
+shared_of_sources before now (sources.NoSuchGroup group) steady = steady
+shared_of_sources before now (sources.TooManyLinks number) steady = refl
+shared_of_sources before now (sources.CircularCommands cycle) steady = steady
+
+-- the causes of an update by one runner are those of a crew of one
+one_alone : (before now : ℕ) → OneRose (before ∷ []) (now ∷ []) → Rose before now
+one_alone before now one = by one.at one.stood one.stands
+  where
+    by : (at : ℕ) → slice_get (before ∷ []) at ≡ Some one.was → slice_get (now ∷ []) at ≡ Some one.is → Rose before now
+    by zero stood stands =
+        let was : before ≡ one.was = cc stood in
+        let is : now ≡ one.is = cc stands in
+        subst (λ (n : ℕ). Rose n now) (sym was) (subst (Rose one.was) (sym is) one.rose)
+    by (suc at) stood stands = absurd (cc stood)
+
+alone_run : (before now : ℕ) (stopped : Option Stop) → CrewRunCause (before ∷ []) (now ∷ []) stopped → HasRunCause before now stopped
+alone_run before now None cause = cc cause
+alone_run before now (Some NoStore) cause = cc cause
+alone_run before now (Some (StoreDamaged offset)) cause = cc cause
+alone_run before now (Some (Sources fault)) cause = cc cause
+alone_run before now (Some (IsUsers path written found)) cause = cc cause
+alone_run before now (Some (Bad rule verdict)) cause = let same : now ∷ [] ≡ before ∷ [] = cause refl in cc same
+alone_run before now (Some Run) cause = one_alone before now cause
+alone_run before now (Some Full) cause = let same : now ∷ [] ≡ before ∷ [] = cause refl in cc same
+alone_run before now (Some (Outside failed)) cause = let same : now ∷ [] ≡ before ∷ [] = cause refl in cc same
+
+module _ (site_before site_now : ℕ) (runs_before runs_now : List ℕ) (sink_before sink_now : ℕ) where
+  abbrev crew_before : Counts
+  crew_before = record { site = site_before; runners = runs_before; sink = sink_before }
+
+  abbrev crew_now : Counts
+  crew_now = record { site = site_now; runners = runs_now; sink = sink_now }
+
+  shared_of_stop : (log : Log) (stopped : Option Stop) → (IsDone (status_of log stopped) → sink_now ≡ sink_before) → StopHasSharedCause site_before site_now stopped → CrewRunCause runs_before runs_now stopped →
+      HasSharedCause crew_before crew_now (status_of log stopped)
+  shared_of_stop log None sink cause run = ((cause, run), sink tt)
+  shared_of_stop log (Some NoStore) sink cause run = (cause, run)
+  shared_of_stop log (Some (StoreDamaged offset)) sink cause run = (cause, run)
+  shared_of_stop log (Some (Sources fault)) sink cause run = shared_of_sources crew_before crew_now fault (cause.0, run)
+  shared_of_stop log (Some (IsUsers path written found)) sink cause run = (cause, run)
+  shared_of_stop log (Some (Bad rule Good)) sink cause run = absurd (false≢true (sym cause))
+  shared_of_stop log (Some (Bad rule (Failed status))) sink cause run = tt
+  shared_of_stop log (Some (Bad rule (ReadsIllegally text))) sink cause run = tt
+  shared_of_stop log (Some (Bad rule (WritesIllegally text))) sink cause run = tt
+  shared_of_stop log (Some (Bad rule (LeavesUnwritten path))) sink cause run = tt
+  shared_of_stop log (Some (Bad rule ReadsTooOften)) sink cause run = tt
+  shared_of_stop log (Some Run) sink cause run = run
+  shared_of_stop log (Some Full) sink cause run = refl
+  shared_of_stop log (Some (Outside Fault)) sink cause run = cause
+  shared_of_stop log (Some (Outside (TooLarge number))) sink cause run = refl
+  shared_of_stop log (Some (Outside NoMemory)) sink cause run = tt
+
+  shared_counts : (log : Log) (stopped : Option Stop) (status answer : Status) → status ≡ status_of log stopped → Ends sink_before sink_now status answer →
+      (IsDone answer → sink_now ≡ sink_before) → StopHasSharedCause site_before site_now stopped → CrewRunCause runs_before runs_now stopped → HasSharedCause crew_before crew_now answer
+  shared_counts log stopped status answer is (inl e) sink cause run =
+      subst (HasSharedCause crew_before crew_now) (sym (e ∙ is)) (shared_of_stop log stopped (λ done. sink (subst IsDone (sym (e ∙ is)) done)) cause run)
+  shared_counts log stopped status answer is (inr (inl e)) sink cause run = subst (HasSharedCause crew_before crew_now) (sym e) tt
+  shared_counts log stopped status answer is (inr (inr (e, done, rose))) sink cause run =
+      let none = done_is_none log stopped (subst IsDone is done) in
+      subst (HasSharedCause crew_before crew_now) (sym e)
+      ((subst (StopHasSharedCause site_before site_now) none cause, subst (CrewRunCause runs_before runs_now) none run), rose)
+
+-- so no count of a crew of one rises unseen, and none of a larger one where nothing stopped it
+module _ (site_before site_now sink_before sink_now : ℕ) (log : Log) (stopped : Option Stop) (status answer : Status) (is : status ≡ status_of log stopped) (ends : Ends sink_before sink_now status answer)
+    (sink : IsDone answer → sink_now ≡ sink_before) where
+  counts_alone : (runs_before runs_now : List ℕ) → length runs_now ≡ length runs_before → StopHasCountedCause site_before site_now stopped → CrewRunCause runs_before runs_now stopped → length runs_before ≡ 1 →
+      HasCountedCause (crew_before site_before site_now runs_before runs_now sink_before sink_now) (crew_now site_before site_now runs_before runs_now sink_before sink_now) answer
+  counts_alone (before ∷ []) (now ∷ []) many cause run one =
+      counted_cause site_before site_now before now sink_before sink_now log stopped status answer is ends sink cause (alone_run before now stopped run)
+  counts_alone [] runs_now many cause run one = absurd (omega (arith, one))
+  counts_alone (before ∷ []) [] many cause run one = absurd (omega (arith, many))
+  counts_alone (before ∷ []) (now ∷ other ∷ others) many cause run one = absurd (omega (arith, many))
+  counts_alone (before ∷ other ∷ others) runs_now many cause run one = absurd (omega (arith, one))
+
+  pub crew_counted : (runs_before runs_now : List ℕ) → length runs_now ≡ length runs_before → CrewCountedCause (length runs_before) site_before site_now stopped → CrewRunCause runs_before runs_now stopped →
+      HasCrewCause (length runs_before) (crew_before site_before site_now runs_before runs_now sink_before sink_now) (crew_now site_before site_now runs_before runs_now sink_before sink_now) answer
+  crew_counted runs_before runs_now many cause run = record {
+    any = shared_counts site_before site_now runs_before runs_now sink_before sink_now log stopped status answer is ends sink cause.any run;
+    alone = λ one. counts_alone runs_before runs_now many (cause.alone one) run one;
+  }
+
+-- by what the runners of a crew count
+pub crew_answers : {R : Type 0} (count : R → ℕ) (before now : List R) (site_before site_now sink_before sink_now : ℕ) (log : Log) (stopped : Option Stop) (status answer : Status) → status ≡ status_of log stopped →
+    Ends sink_before sink_now status answer → (IsDone answer → sink_now ≡ sink_before) → length now ≡ length before → CrewCountedCause (length before) site_before site_now stopped → CrewRunCause (map count before) (map count now) stopped →
+    HasCrewCause (length before) (record { site = site_before; runners = map count before; sink = sink_before }) (record { site = site_now; runners = map count now; sink = sink_now }) answer
+crew_answers count before now site_before site_now sink_before sink_now log stopped status answer is ends sink many cause run =
+    let is_long = length-map before count in
+    subst (λ (jobs : ℕ). HasCrewCause jobs (record { site = site_before; runners = map count before; sink = sink_before }) (record { site = site_now; runners = map count now; sink = sink_now }) answer) is_long
+    (crew_counted site_before site_now sink_before sink_now log stopped status answer is ends sink (map count before) (map count now) (length-map now count ∙ (many ∙ sym is_long))
+    (subst (λ (jobs : ℕ). CrewCountedCause jobs site_before site_now stopped) (sym is_long) cause) run)
+
 -- ---- what is printed
 
 -- what is answered where the sink failed
@@ -263,51 +376,55 @@ never_rose one = by one.at one.was one.is one.stood one.stands one.rose
     by zero was is stood stands (inr end) = let same : is ≡ 0 = cc stands in omega (arith, same, end)
     by (suc at) was is stood stands rose = absurd (cc stood)
 
+-- the log of an update for which there was no memory
+abbrev pub nothing_logged : Log
+nothing_logged = record { read = []; removed = []; ran = []; ended = [] }
+
 -- where no rule was begun none lacks its end
-pub none_begun : (jobs : ℕ) → EndsFirst jobs (record { read = []; removed = []; ran = []; ended = [] })
+pub none_begun : (jobs : ℕ) → EndsFirst jobs nothing_logged
 none_begun jobs = record { rest = []; begun = record { all = IsPermutation-refl []; alone = λ _. refl } }
 
 -- an update for which there was no memory before it began
-abbrev pub told_nothing : (site keep_going : Bool) (says : List (Option (List ℕ)) → Type 0) → says [] → (w : World) → Told site keep_going says w w []
-told_nothing site keep_going says none w = record {
-  log = record { read = []; removed = []; ran = []; ended = [] };
+abbrev pub told_nothing : (jobs : ℕ) (site keep_going : Bool) (says : Log → List (Option (List ℕ)) → Type 0) → says nothing_logged [] → (w : World) → Told jobs site keep_going says w w []
+told_nothing jobs site keep_going says none w = record {
+  log = nothing_logged;
   because = [];
   said = none;
   stopped = Some (Outside NoMemory);
   begun = refl;
-  logged = none_begun 1;
+  logged = none_begun jobs;
   unopened = λ _. inr (record { world = inl refl; empty = record { read = refl; removed = refl; ran = refl; ended = refl } });
 }
 
-pub prints_no_update : (site keep_going : Bool) (says : List (Option (List ℕ)) → Type 0) → says [] → (w : World) (before now : ℕ) (held : List ℕ) → PrintsUpdate site keep_going says w w [] before now held held Memory
-prints_no_update site keep_going says none w before now held = record {
-  told = told_nothing site keep_going says none w;
+pub prints_no_update : (jobs : ℕ) (site keep_going : Bool) (says : Log → List (Option (List ℕ)) → Type 0) → says nothing_logged [] → (w : World) (before now : ℕ) (held : List ℕ) → PrintsUpdate jobs site keep_going says w w [] before now held held Memory
+prints_no_update jobs site keep_going says none w before now held = record {
+  told = told_nothing jobs site keep_going says none w;
   ends = inl refl;
-  prints = prints_nothing Memory (lines (told_nothing site keep_going says none w).log [] Memory) before now held;
+  prints = prints_nothing Memory (lines nothing_logged [] Memory) before now held;
 }
 
 -- of an update that began no rule nothing is said
-pub says_none : {S : Type 0} (site : Site S) (old : S) (explain : Bool) → SaysWhyOf site old explain [] []
-says_none site old true = (refl, λ tells kept asked. inl (refl, refl))
-says_none site old false = (refl, λ tells kept asked. inl (refl, refl))
+pub says_none : {S : Type 0} (site : Site S) (old : S) (explain : Bool) → SaysWhyOf site old explain nothing_logged []
+says_none site old true = (([], refl), λ tells kept asked. ([], inl (refl, refl)))
+says_none site old false = (([], refl), λ tells kept asked. ([], inl (refl, refl)))
 
 -- the lines of an update over a world that is this one, of whose rules less is said
-module _ (site keep_going : Bool) (P Q : List (Option (List ℕ)) → Type 0) (was world left : World) (ran : List RuleName) (before now : ℕ) (old new : List ℕ) (answer : Status) where
-  abbrev told_less : Told site keep_going P was left ran → ((chains : List (Option (List ℕ))) → P chains → Q chains) → Told site keep_going Q was left ran
+module _ (jobs : ℕ) (site keep_going : Bool) (P Q : Log → List (Option (List ℕ)) → Type 0) (was world left : World) (ran : List RuleName) (before now : ℕ) (old new : List ℕ) (answer : Status) where
+  abbrev told_less : Told jobs site keep_going P was left ran → ((log : Log) (chains : List (Option (List ℕ))) → P log chains → Q log chains) → Told jobs site keep_going Q was left ran
   told_less told on = record {
     log = told.log;
     because = told.because;
-    said = on told.because told.said;
+    said = on told.log told.because told.said;
     stopped = told.stopped;
     begun = told.begun;
     logged = told.logged;
     unopened = told.unopened;
   }
 
-  pub says_less : was ≡ world → PrintsUpdate site keep_going P was left ran before now old new answer → ((chains : List (Option (List ℕ))) → P chains → Q chains) → PrintsUpdate site keep_going Q world left ran before now old new answer
+  pub says_less : was ≡ world → PrintsUpdate jobs site keep_going P was left ran before now old new answer → ((log : Log) (chains : List (Option (List ℕ))) → P log chains → Q log chains) → PrintsUpdate jobs site keep_going Q world left ran before now old new answer
   says_less same given on =
-      let less : PrintsUpdate site keep_going Q was left ran before now old new answer = record { told = told_less given.told on; ends = given.ends; prints = given.prints } in
-      subst (λ (w : World). PrintsUpdate site keep_going Q w left ran before now old new answer) same less
+      let less : PrintsUpdate jobs site keep_going Q was left ran before now old new answer = record { told = told_less given.told on; ends = given.ends; prints = given.prints } in
+      subst (λ (w : World). PrintsUpdate jobs site keep_going Q w left ran before now old new answer) same less
 
 -- ---- how the store was gone on from
 
@@ -329,7 +446,7 @@ module _ (old new : World) (ran : List RuleName) (log : Log) (begun : log.ran �
 
 -- nothing was begun
 pub logs_nothing : (jobs : ℕ) (keep_going : Bool) → Logs jobs keep_going [] (Some (Outside NoMemory))
-logs_nothing jobs keep_going = (Some (Outside NoMemory), record { read = []; removed = []; ran = []; ended = [] }, refl, none_begun jobs)
+logs_nothing jobs keep_going = (Some (Outside NoMemory), nothing_logged, refl, none_begun jobs)
 
 module _ (jobs : ℕ) (keep_going : Bool) (ran : List RuleName) (log : Log) (begun : log.ran ≡ ran) where
   pub logs_so : (stopped : Option Stop) → IsLogged jobs keep_going log stopped → Logs jobs keep_going ran stopped
@@ -360,3 +477,18 @@ untold_runs ran old new (Some Full) runs = inl runs
 untold_runs ran old new (Some (Outside Fault)) runs = inl runs
 untold_runs ran old new (Some (Outside (TooLarge number))) runs = inl runs
 untold_runs ran old new (Some (Outside NoMemory)) runs = runs
+
+-- so was each of a crew, of its share
+untold_share : (rules : List RuleName) (old new : List (Names × List ℕ)) (stopped : Option Stop) → RunsShare rules old new stopped → RunsShare rules old new (Some (Outside NoMemory))
+untold_share rules old new None runs = inl runs
+untold_share rules old new (Some stop) runs = runs
+
+pub untold_crew : (ran : List RuleName) (before now : List (List (Names × List ℕ))) (stopped : Option Stop) → CrewRuns ran before now stopped → CrewRuns ran before now (Some (Outside NoMemory))
+untold_crew ran before now stopped runs = record {
+  many = runs.many;
+  seats = runs.seats;
+  each = runs.each;
+  below = runs.below;
+  shares = λ seat old new stood stands. untold_share (share seat runs.seats ran) old new stopped (runs.shares seat old new stood stands);
+  alone = λ old new one same. untold_runs ran old new stopped (runs.alone old new one same);
+}

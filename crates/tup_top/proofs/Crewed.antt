@@ -1,54 +1,67 @@
 -- A crew whose first runner did all: what one runner counts and ran is what the crew does.
-use Rattle.std.proofs.Common.{◌≡◌, ℕ, zero, suc, ◌<◌, List, [], ◌∷◌, drop, length, map, get_or, Option, Some, Result, Err, inl, inr, refl, ap, subst, arith}
+use Rattle.std.proofs.Common.{◌≡◌, ℕ, zero, suc, ◌<◌, List, [], ◌∷◌, ◌++◌, drop, length, map, get_or, Option, Some, Result, Err, inl, inr, refl, ap, subst, arith}
 use Rattle.std.specs.Prelude.{slice_get, slice_set}
 use Rattle.std.specs.Result.{result_err}
 use Rattle.tup_path.specs.Name.{Names}
-use Rattle.tup_rule.specs.declared.rule.RuleName.{RuleName}
 use Rattle.tup_runner.specs.Next.{Next}
 use Rattle.tup_site.specs.World.{World}
 use Rattle.tup_site.specs.declared.fault.SiteFailed.TheVariants.{Memory as NoMemory}
 use Rattle.tup_compare.specs.Compared.{RunsToCompare}
-use Rattle.tup_promise.specs.Ran.{RunsThese}
+use Rattle.tup_promise.specs.Cause.{OneRose}
 use Rattle.tup_compare.specs.declared.compare.Compared.{Compared}
 use Rattle.tup_promise.specs.declared.stop.Stop.{Stop}
 use Rattle.tup_promise.specs.declared.stop.Stop.TheVariants.{Outside}
-use Rattle.tup_promise.specs.Cause.{OneRose}
-use Rattle.tup_top.specs.Crew.{CrewRuns, CrewCompares}
-use Rattle.tup_top.specs.Promise.{Counts, beside, AreSteady, OneFailedAtMost, HasCountedCause, HasComparedCause}
+use Rattle.tup_top.specs.Crew.{CrewCompares}
+use Rattle.tup_top.specs.Promise.{Counts, beside, AreSteady, OneFailedAtMost, HasCountedCause, HasComparedCause, HasCrewCause, HasSharedCause}
 use Rattle.tup_top.specs.declared.status.Status.{Status}
 use Rattle.tup_top.specs.declared.status.Status.TheVariants.{Done, Command, IllegalRead, IllegalWrite, Unwritten, TooManyReads, Usage, NotInit, AlreadyInit, BadStore, Parse, CircularDirs, CircularCommands, NoSuchGroup, UserFile, SiteFault, RunFault, SinkFault, Limit, Memory, Differs}
-use Rattle.tup_top.specs.Status.{IfCame, IfCompared}
-use Rattle.tup_top.proofs.Causes.{of_one, came_on, never_rose}
+use Rattle.tup_top.specs.Status.{IfCompared}
+use Rattle.tup_top.proofs.Causes.{of_one, never_rose}
 use Rattle.tup_top.proofs.Verified.{compared_on}
 
--- a count of one runner that rose is one of the crew's
-one_of_more : (before now : ℕ) (others : List ℕ) → OneRose (before ∷ []) (now ∷ []) → OneRose (before ∷ others) (now ∷ others)
-one_of_more before now others one = by one.at one.stood one.stands
-  where
-    by : (at : ℕ) → slice_get (before ∷ []) at ≡ Some one.was → slice_get (now ∷ []) at ≡ Some one.is → OneRose (before ∷ others) (now ∷ others)
-    by zero stood stands = record { at = 0; was = one.was; is = one.is; stood = stood; stands = stands; rose = one.rose }
-    by (suc at) stood stands = absurd (cc stood)
+-- a count of some runners that rose is one of the crew's
+slice_get_more : {A : Type 0} (list others : List A) (at : ℕ) (one : A) → slice_get list at ≡ Some one → slice_get (list ++ others) at ≡ Some one
+slice_get_more [] others at one is = absurd (cc is)
+slice_get_more (first ∷ list) others zero one is = is
+slice_get_more (first ∷ list) others (suc at) one is = slice_get_more list others at one is
 
-module _ (site_before site_now run_before run_now sink_before sink_now : ℕ) (others : List ℕ) where
+one_of_more : (before now others : List ℕ) → OneRose before now → OneRose (before ++ others) (now ++ others)
+one_of_more before now others one = record {
+  at = one.at;
+  was = one.was;
+  is = one.is;
+  stood = slice_get_more before others one.at one.was one.stood;
+  stands = slice_get_more now others one.at one.is one.stands;
+  rose = one.rose;
+}
+
+-- what some runners of a crew count, and the others stood still
+module _ (site_before site_now : ℕ) (run_before run_now : List ℕ) (sink_before sink_now : ℕ) (others : List ℕ) where
+  abbrev some_before : Counts
+  some_before = record { site = site_before; runners = run_before; sink = sink_before }
+
+  abbrev some_now : Counts
+  some_now = record { site = site_now; runners = run_now; sink = sink_now }
+
   abbrev crew_before : Counts
-  crew_before = record { site = site_before; runners = run_before ∷ others; sink = sink_before }
+  crew_before = record { site = site_before; runners = run_before ++ others; sink = sink_before }
 
   abbrev crew_now : Counts
-  crew_now = record { site = site_now; runners = run_now ∷ others; sink = sink_now }
+  crew_now = record { site = site_now; runners = run_now ++ others; sink = sink_now }
 
-  same_runners : run_now ∷ [] ≡ run_before ∷ [] → run_now ∷ others ≡ run_before ∷ others
-  same_runners same = let here : run_now ≡ run_before = cc same in ap (λ (n : ℕ). n ∷ others) here
+  same_runners : run_now ≡ run_before → run_now ++ others ≡ run_before ++ others
+  same_runners same = ap (λ (l : List ℕ). l ++ others) same
 
-  steady : AreSteady (of_one site_before run_before sink_before) (of_one site_now run_now sink_now) → AreSteady crew_before crew_now
+  steady : AreSteady some_before some_now → AreSteady crew_before crew_now
   steady (site, run) = (site, same_runners run)
 
-  failed_once : OneFailedAtMost (of_one site_before run_before sink_before) (of_one site_now run_now sink_now) → OneFailedAtMost crew_before crew_now
+  failed_once : OneFailedAtMost some_before some_now → OneFailedAtMost crew_before crew_now
   failed_once (inl same) = inl (steady same)
   failed_once (inr (inl failed)) = inr (inl (failed.0, same_runners failed.1))
   failed_once (inr (inr failed)) = inr (inr (failed.0, one_of_more run_before run_now others failed.1))
 
-  -- the causes of one runner are those of the crew
-  causes_of_crew : (status : Status) → HasCountedCause (of_one site_before run_before sink_before) (of_one site_now run_now sink_now) status → HasCountedCause crew_before crew_now status
+  -- their causes are those of the crew
+  causes_of_crew : (status : Status) → HasCountedCause some_before some_now status → HasCountedCause crew_before crew_now status
   causes_of_crew (Done read ran removed) cause = (steady cause.0, cause.1)
   causes_of_crew (Command rule status) cause = steady cause
   causes_of_crew (IllegalRead rule text) cause = steady cause
@@ -71,8 +84,38 @@ module _ (site_before site_now run_before run_now sink_before sink_now : ℕ) (o
   causes_of_crew Memory cause = failed_once cause
   causes_of_crew (Differs path) cause = cause
 
+  shared_of_crew : (status : Status) → HasSharedCause some_before some_now status → HasSharedCause crew_before crew_now status
+  shared_of_crew (Done read ran removed) cause = (steady cause.0, cause.1)
+  shared_of_crew (Command rule status) cause = tt
+  shared_of_crew (IllegalRead rule text) cause = tt
+  shared_of_crew (IllegalWrite rule text) cause = tt
+  shared_of_crew (Unwritten rule path) cause = tt
+  shared_of_crew (TooManyReads rule) cause = tt
+  shared_of_crew (Usage place) cause = cause
+  shared_of_crew NotInit cause = steady cause
+  shared_of_crew AlreadyInit cause = cause
+  shared_of_crew (BadStore offset) cause = steady cause
+  shared_of_crew (Parse fault) cause = steady cause
+  shared_of_crew (CircularDirs cycle) cause = steady cause
+  shared_of_crew (CircularCommands cycle) cause = steady cause
+  shared_of_crew (NoSuchGroup group) cause = steady cause
+  shared_of_crew (UserFile path) cause = steady cause
+  shared_of_crew SiteFault cause = cause
+  shared_of_crew RunFault cause = one_of_more run_before run_now others cause
+  shared_of_crew SinkFault cause = (steady cause.0, cause.1)
+  shared_of_crew (Limit what number) cause = cause
+  shared_of_crew Memory cause = tt
+  shared_of_crew (Differs path) cause = cause
+
+  -- so are those of an update by some of its runners
+  pub some_of_crew : (jobs : ℕ) (status : Status) → HasCrewCause jobs some_before some_now status → HasCrewCause jobs crew_before crew_now status
+  some_of_crew jobs status cause = record {
+    any = shared_of_crew status cause.any;
+    alone = λ one. causes_of_crew status (cause.alone one);
+  }
+
   -- those of a comparison too
-  compared_of_crew : (status : Status) → HasComparedCause (of_one site_before run_before sink_before) (of_one site_now run_now sink_now) status → HasComparedCause crew_before crew_now status
+  compared_of_crew : (status : Status) → HasComparedCause some_before some_now status → HasComparedCause crew_before crew_now status
   compared_of_crew (Differs path) cause = steady cause
   compared_of_crew (Done read ran removed) cause = causes_of_crew (Done read ran removed) cause
   compared_of_crew (Command rule status) cause = causes_of_crew (Command rule status) cause
@@ -96,43 +139,17 @@ module _ (site_before site_now run_before run_now sink_before sink_now : ℕ) (o
   compared_of_crew Memory cause = causes_of_crew Memory cause
 
 -- so they are where the first runner of a crew did all
-module _ {R : Type 0} (count : R → ℕ) (site_before site_now sink_before sink_now : ℕ) (status : Status) (cause_of : Counts → Counts → Status → Type 0)
-    (more : (run_before run_now : ℕ) (others : List ℕ) → cause_of (of_one site_before run_before sink_before) (of_one site_now run_now sink_now) status →
-    cause_of (crew_before site_before site_now run_before run_now sink_before sink_now others) (crew_now site_before site_now run_before run_now sink_before sink_now others) status) where
-  cause_of_first : (crew : List R) (old now : R) → 0 < length crew → old ≡ get_or crew 0 old → cause_of (of_one site_before (count old) sink_before) (of_one site_now (count now) sink_now) status →
-      cause_of (record { site = site_before; runners = map count crew; sink = sink_before }) (record { site = site_now; runners = map count (slice_set crew 0 now); sink = sink_now }) status
-  cause_of_first [] old now some first cause = absurd (omega (arith, some))
-  cause_of_first (one ∷ others) old now some first cause =
-      subst (λ (r : R). cause_of (record { site = site_before; runners = count r ∷ map count others; sink = sink_before }) (record { site = site_now; runners = count now ∷ map count others; sink = sink_now }) status) first
-      (more (count old) (count now) (map count others) cause)
-
-pub crew_cause : {R : Type 0} (count : R → ℕ) (crew : List R) (old now : R) (site_before site_now sink_before sink_now : ℕ) (status : Status) → 0 < length crew → old ≡ get_or crew 0 old →
-    HasCountedCause (of_one site_before (count old) sink_before) (of_one site_now (count now) sink_now) status →
-    HasCountedCause (record { site = site_before; runners = map count crew; sink = sink_before }) (record { site = site_now; runners = map count (slice_set crew 0 now); sink = sink_now }) status
-crew_cause {R} count crew old now site_before site_now sink_before sink_now status some first cause =
-    cause_of_first count site_before site_now sink_before sink_now status HasCountedCause
-    (λ run_before run_now others. causes_of_crew site_before site_now run_before run_now sink_before sink_now others status) crew old now some first cause
-
 pub crew_compared : {R : Type 0} (count : R → ℕ) (crew : List R) (old now : R) (site_before site_now sink_before sink_now : ℕ) (status : Status) → 0 < length crew → old ≡ get_or crew 0 old →
     HasComparedCause (of_one site_before (count old) sink_before) (of_one site_now (count now) sink_now) status →
     HasComparedCause (record { site = site_before; runners = map count crew; sink = sink_before }) (record { site = site_now; runners = map count (slice_set crew 0 now); sink = sink_now }) status
-crew_compared {R} count crew old now site_before site_now sink_before sink_now status some first cause =
-    cause_of_first count site_before site_now sink_before sink_now status HasComparedCause
-    (λ run_before run_now others. compared_of_crew site_before site_now run_before run_now sink_before sink_now others status) crew old now some first cause
+crew_compared {R} count [] old now site_before site_now sink_before sink_now status some first cause = absurd (omega (arith, some))
+crew_compared {R} count (one ∷ others) old now site_before site_now sink_before sink_now status some first cause =
+    subst (λ (r : R). HasComparedCause (record { site = site_before; runners = count r ∷ map count others; sink = sink_before }) (record { site = site_now; runners = count now ∷ map count others; sink = sink_now }) status) first
+    (compared_of_crew site_before site_now (count old ∷ []) (count now ∷ []) sink_before sink_now (map count others) status cause)
 
--- and what it ran is what the crew ran
+-- what the first runner ran is what the crew ran
 module _ {R : Type 0} (ran_by : R → List (Names × List ℕ)) (crew : List R) (old now : R) (some : 0 < length crew) (first : old ≡ get_or crew 0 old) where
-  runs_of_first : (ran : List RuleName) (stopped : Option Stop) → RunsThese ran (ran_by old) (ran_by now) stopped → CrewRuns ran (map ran_by crew) (map ran_by (slice_set crew 0 now)) stopped
-  runs_of_first ran stopped runs = by crew some first
-    where
-      by : (crew : List R) → 0 < length crew → old ≡ get_or crew 0 old → CrewRuns ran (map ran_by crew) (map ran_by (slice_set crew 0 now)) stopped
-      by [] some first = absurd (omega (arith, some))
-      by (one ∷ others) some first = subst (λ (r : R). RunsThese ran (ran_by r) (ran_by now) stopped × (map ran_by others ≡ map ran_by others)) first (runs, refl)
-
-  pub crew_runs : (ran : List RuleName) (status : Status) → IfCame status (RunsThese ran (ran_by old) (ran_by now)) → IfCame status (CrewRuns ran (map ran_by crew) (map ran_by (slice_set crew 0 now)))
-  crew_runs ran status runs = came_on (RunsThese ran (ran_by old) (ran_by now)) (CrewRuns ran (map ran_by crew) (map ran_by (slice_set crew 0 now))) (runs_of_first ran) status runs
-
-  -- the same of what it ran for a comparison
+  -- what it ran for a comparison
   compares_of_first : (next : Next) (w : World) (compared : Result Compared Stop) → RunsToCompare next w (ran_by old) (ran_by now) (result_err compared) → CrewCompares next w (map ran_by crew) (map ran_by (slice_set crew 0 now)) compared
   compares_of_first next w compared runs = by crew some first
     where

@@ -11,7 +11,7 @@ use Rattle.tup_graph.specs.declared.owned.Owned.{Owned}
 use Rattle.tup_ledger.specs.Listing.{Lists}
 use Rattle.tup_compare.proofs.Held.{there, undamaged}
 use Rattle.tup_top.specs.Printed.{demo_world}
-use Rattle.tup_top.specs.Promise.{HasCountedCause, HasDemoCause, OpensStore}
+use Rattle.tup_top.specs.Promise.{HasCountedCause, HasCrewCause, HasDemoCause, OpensStore}
 use Rattle.tup_top.specs.Status.{IfCame}
 use Rattle.tup_top.specs.declared.status.Status.{Status}
 use Rattle.tup_top.specs.declared.status.Status.TheVariants.{Done, Command, IllegalRead, IllegalWrite, Unwritten, TooManyReads, Usage, NotInit, AlreadyInit, BadStore, Parse, CircularDirs, CircularCommands, NoSuchGroup, UserFile, SiteFault, RunFault, SinkFault, Limit, Memory, Differs}
@@ -68,3 +68,13 @@ demo_cause left ran before now SinkFault opens counts = counts.1
 demo_cause left ran before now (Limit what number) opens counts = counts.1
 demo_cause left ran before now Memory opens counts = tt
 demo_cause left ran before now (Differs path) opens counts = counts
+
+-- a crew of one that counts no failures
+pub demo_counts : {R : Type 0} (before now : List R) (sink_before sink_now : ℕ) (status : Status) → length before ≡ 1 → length now ≡ length before →
+    HasCrewCause (length before) (record { site = 0; runners = map (λ (r : R). 0) before; sink = sink_before }) (record { site = 0; runners = map (λ (r : R). 0) now; sink = sink_now }) status →
+    HasCountedCause (of_one 0 0 sink_before) (of_one 0 0 sink_now) status
+demo_counts (one ∷ []) (same ∷ []) sink_before sink_now status alone many cause = cause.alone refl
+demo_counts (one ∷ []) [] sink_before sink_now status alone many cause = absurd (omega (arith, many))
+demo_counts (one ∷ []) (same ∷ other ∷ others) sink_before sink_now status alone many cause = absurd (omega (arith, many))
+demo_counts [] now sink_before sink_now status alone many cause = absurd (omega (arith, alone))
+demo_counts (one ∷ other ∷ others) now sink_before sink_now status alone many cause = absurd (omega (arith, alone))

@@ -16,7 +16,7 @@ use Rattle.tup_top.specs.Printed.{Ends, IsDone}
 use Rattle.tup_top.specs.Promise.{FindsOut, HasCountedCause, beside}
 use Rattle.tup_top.specs.Status.{IfCame, status_of, status_of_stop, status_of_todo}
 use Rattle.tup_top.specs.declared.status.Status.{Status}
-use Rattle.tup_top.proofs.Causes.{answered, counted_cause, done_is_none, opens_so}
+use Rattle.tup_top.proofs.Causes.{answered, counted_cause, done_is_none, opens_so, shared_cause}
 use Rattle.tup_top.proofs.Crewed.{idle_crew}
 
 -- the log of an update that read these folders and went no further
@@ -66,7 +66,7 @@ pub found_out : (kept : Type 0) (old new : World) (site_before site_now before n
     → StopHasCountedCause site_before site_now (result_err todo) → GoesOnFromStore old new (result_err todo) → IfErr todo StopsSurvey → (kept → IfErr todo (BlamesSources old)) → (kept → FlagsWhatWasDue old new)
     → IfCame answer (FindsOut kept old new)
 found_out kept old new site_before site_now before now todo answer ends cause goes stops blamed flagged =
-    answered (FindsOut kept old new) before now site_before site_now (log_of todo) (result_err todo) (status_of_todo todo) answer (told_so todo) ends cause
+    answered (FindsOut kept old new) before now site_before site_now (log_of todo) (result_err todo) (status_of_todo todo) answer (told_so todo) ends (shared_cause site_before site_now (result_err todo) cause)
     (record {
       opens = opens_so old new [] goes.0 goes.1 (result_err todo) goes.2;
       stops = if_some StopsSurvey todo stops;

@@ -4,6 +4,7 @@ pub mod Idle
 pub mod Success
 pub mod Verified
 pub mod Crewed
+pub mod Parted
 pub mod Begun
 pub mod Shown
 pub mod Demo

@@ -1,5 +1,5 @@
 -- What an update promises of a kept site to which nothing was done.
-use Rattle.std.proofs.Common.{◌≡◌, inl, ℕ, List, [], Bool, Some, refl, sym, subst, arith}
+use Rattle.std.proofs.Common.{◌≡◌, inl, List, [], Bool, ℕ, Some, refl, sym, subst, arith}
 use Rattle.tup_site.specs.declared.fault.SiteFailed.TheVariants.{Memory as NoMemory}
 use Rattle.tup_site.specs.declared.site.Site.{Ghosts as Site}
 use Rattle.tup_rule.specs.declared.rule.RuleName.{RuleName}

@@ -19,7 +19,7 @@ use Rattle.tup_top.specs.Promise.{Counts, OneFailedAtMost, HasCountedCause, HasC
 use Rattle.tup_top.specs.Status.{status_of_stop, status_of_compared, IfCame, IfCompared, of_stop}
 use Rattle.tup_top.specs.declared.status.Status.{Status}
 use Rattle.tup_top.specs.declared.status.Status.TheVariants.{Done, Command, IllegalRead, IllegalWrite, Unwritten, TooManyReads, Usage, NotInit, AlreadyInit, BadStore, Parse, CircularDirs, CircularCommands, NoSuchGroup, UserFile, SiteFault, RunFault, SinkFault, Limit, Memory, Differs}
-use Rattle.tup_top.proofs.Causes.{came, came_on, done_is_none, failed_once, of_one, steady, counted_of_stop}
+use Rattle.tup_top.proofs.Causes.{came, came_on, done_is_none, failed_once, of_one, shared_cause, steady, counted_of_stop}
 
 -- the log of nothing
 no_log : Log
@@ -77,7 +77,7 @@ compared_on P Q on Memory p = came_on (λ stopped. P (of_stop stopped)) (λ stop
 told_compared : (P : Result Compared Stop → Type 0) (before now : ℕ) (result : Result Compared Stop) → StopHasCountedCause before now (result_err result) → P result → IfCompared (status_of_compared result) P
 told_compared P before now (Ok compared.Same) cause p = p
 told_compared P before now (Ok (compared.Differs path)) cause p = p
-told_compared P before now (Err stop) cause p = same_came P (status_of_stop stop) (came (λ stopped. P (of_stop stopped)) before now no_log (Some stop) cause p)
+told_compared P before now (Err stop) cause p = same_came P (status_of_stop stop) (came (λ stopped. P (of_stop stopped)) before now no_log (Some stop) (shared_cause before now (Some stop) cause) p)
 
 done_is_same : (result : Result Compared Stop) → IsDone (status_of_compared result) → result ≡ Ok compared.Same
 done_is_same (Ok compared.Same) done = refl

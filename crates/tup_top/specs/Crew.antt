@@ -1,25 +1,15 @@
 -- The runners of one call: what they count, and what they ran.
-use Rattle.std.specs.Prelude.{◌≡◌, ◌<◌, ◌≤◌, ℕ, List, [], ◌∷◌, length, Option, Result}
+use Rattle.std.specs.Prelude.{◌≡◌, ℕ, List, [], ◌∷◌, Result}
 use Rattle.std.specs.Result.{result_err}
 use Rattle.tup_path.specs.Name.{Names}
 use Rattle.tup_site.specs.World.{World}
 use Rattle.tup_rule.specs.declared.rule.RuleName.{RuleName}
 use Rattle.tup_runner.specs.Next.{Next}
-use Rattle.tup_promise.specs.Ran.{RunsThese}
 use Rattle.tup_compare.specs.Compared.{RunsToCompare}
 use Rattle.tup_compare.specs.declared.compare.Compared.{Compared}
 use Rattle.tup_promise.specs.declared.stop.Stop.{Stop}
+pub use Rattle.tup_parallel.specs.Parallel.{IsCrew}
 use Rattle.tup_top.specs.Order.{Wanted, IsUpdate, HasCommandsRun}
-
--- a crew has a runner, and at most 16
-abbrev pub IsCrew : {R : Type 0} → List R → Type 0
-IsCrew {R} crew = (0 < length crew) × (length crew ≤ 16)
-
--- the first runner was given the commands of these rules to run, and the others ran nothing
-abbrev pub CrewRuns : List RuleName → List (List (Names × List ℕ)) → List (List (Names × List ℕ)) → Option Stop → Type 0
-CrewRuns ran (old ∷ others) (new ∷ rest) stopped = RunsThese ran old new stopped × (rest ≡ others)
-CrewRuns ran [] now stopped = ⊥
-CrewRuns ran before [] stopped = ⊥
 
 -- the first runner was given the commands of a comparison to run, and the others ran nothing
 abbrev pub CrewCompares : Next → World → List (List (Names × List ℕ)) → List (List (Names × List ℕ)) → Result Compared Stop → Type 0

@@ -1,5 +1,7 @@
 -- What the words of a command line ask for (own). A word that isn't known here can't stand anywhere.
-use Rattle.std.specs.Prelude.{◌≡◌, ◌+◌, ◌==◌, ℕ, ⊤, Bool, true, false, ◌||◌, if◌then◌else◌, List, [], ◌∷◌, Option, None, Some, Result, Ok, Err, codes, bytes_eq}
+use Rattle.std.specs.Prelude.{◌≡◌, ◌+◌, ◌-◌, ◌==◌, ◌&&◌, nat_le, max, min, ℕ, ⊤, Bool, true, false, ◌||◌, if◌then◌else◌, List, [], ◌∷◌, Option, None, Some, Result, Ok, Err, codes, bytes_eq}
+use Rattle.tup_top.specs.declared.options.Jobs.{Jobs}
+use Rattle.tup_top.specs.declared.options.Jobs.TheVariants as spoken
 use Rattle.tup_top.specs.declared.options.Options.{Options}
 use Rattle.tup_top.specs.declared.options.Program.{Program}
 use Rattle.tup_top.specs.declared.options.Program.TheVariants.{NotNamed, Awaited, Named}
@@ -16,7 +18,7 @@ Wanted = Result Order ℕ
 
 -- the words ask for an update
 abbrev pub IsUpdate : Wanted → Type 0
-IsUpdate (Ok (Upd program keep_going quiet verbose explain)) = ⊤
+IsUpdate (Ok (Upd program keep_going quiet verbose explain jobs)) = ⊤
 IsUpdate (Ok Init) = ⊥
 IsUpdate (Ok Todo) = ⊥
 IsUpdate (Ok Verify) = ⊥
@@ -25,7 +27,7 @@ IsUpdate (Err place) = ⊥
 
 -- the words ask for an update, or for what it would do: both bring the store up to date with the files
 abbrev pub BringsUp : Wanted → Type 0
-BringsUp (Ok (Upd program keep_going quiet verbose explain)) = ⊤
+BringsUp (Ok (Upd program keep_going quiet verbose explain jobs)) = ⊤
 BringsUp (Ok Init) = ⊥
 BringsUp (Ok Todo) = ⊤
 BringsUp (Ok Verify) = ⊥
@@ -34,7 +36,7 @@ BringsUp (Err place) = ⊥
 
 -- the words ask for a comparison
 abbrev pub IsVerify : Wanted → Type 0
-IsVerify (Ok (Upd program keep_going quiet verbose explain)) = ⊥
+IsVerify (Ok (Upd program keep_going quiet verbose explain jobs)) = ⊥
 IsVerify (Ok Init) = ⊥
 IsVerify (Ok Todo) = ⊥
 IsVerify (Ok Verify) = ⊤
@@ -43,7 +45,7 @@ IsVerify (Err place) = ⊥
 
 -- the words ask that a project begins
 abbrev pub IsInit : Wanted → Type 0
-IsInit (Ok (Upd program keep_going quiet verbose explain)) = ⊥
+IsInit (Ok (Upd program keep_going quiet verbose explain jobs)) = ⊥
 IsInit (Ok Init) = ⊤
 IsInit (Ok Todo) = ⊥
 IsInit (Ok Verify) = ⊥
@@ -52,7 +54,7 @@ IsInit (Err place) = ⊥
 
 -- the words ask for an update or a comparison, which have commands run
 abbrev pub HasCommandsRun : Wanted → Type 0
-HasCommandsRun (Ok (Upd program keep_going quiet verbose explain)) = ⊤
+HasCommandsRun (Ok (Upd program keep_going quiet verbose explain jobs)) = ⊤
 HasCommandsRun (Ok Init) = ⊥
 HasCommandsRun (Ok Todo) = ⊥
 HasCommandsRun (Ok Verify) = ⊤
@@ -61,12 +63,26 @@ HasCommandsRun (Err place) = ⊥
 
 -- whether what is asked for goes on after a bad verdict
 abbrev pub goes_on : Wanted → Bool
-goes_on (Ok (Upd program keep_going quiet verbose explain)) = keep_going
+goes_on (Ok (Upd program keep_going quiet verbose explain jobs)) = keep_going
 goes_on (Ok Init) = false
 goes_on (Ok Todo) = false
 goes_on (Ok Verify) = false
 goes_on (Ok Demo) = false
 goes_on (Err place) = false
+
+-- how many of so many runners an update uses whose words say this: all where they say nothing
+abbrev pub used_of : Option ℕ → ℕ → ℕ
+used_of None many = many
+used_of (Some jobs) many = max (min jobs many) 1
+
+-- how many of so many runners what is asked for uses
+abbrev pub used : Wanted → ℕ → ℕ
+used (Ok (Upd program keep_going quiet verbose explain jobs)) many = used_of jobs many
+used (Ok Init) many = 1
+used (Ok Todo) many = 1
+used (Ok Verify) many = 1
+used (Ok Demo) many = 1
+used (Err place) many = 1
 
 -- whether a word says this
 abbrev pub says : List ℕ → Word → Bool
@@ -83,7 +99,7 @@ alone place order (word ∷ words) = Err place
 
 -- the options of no words
 abbrev pub no_options : Options
-no_options = record { program = NotNamed; keep_going = false; quiet = false; verbose = false; explain = false }
+no_options = record { program = NotNamed; keep_going = false; quiet = false; verbose = false; explain = false; jobs = spoken.NotSaid }
 
 -- whether the next word names the program
 abbrev pub is_awaited : Program → Bool
@@ -107,6 +123,38 @@ explaining options = if options.explain then None else Some (record options { ex
 abbrev pub showing : Bool → Bool → Options → Option Options
 showing quiet verbose options = if options.quiet || options.verbose then None else Some (record options { quiet = quiet; verbose = verbose })
 
+-- the number from 1 to 16 that a text has in digits, of which the first is no zero
+abbrev pub jobs_in : List ℕ → Option ℕ
+jobs_in [] = None
+jobs_in (digit ∷ []) = if nat_le 49 digit && nat_le digit 57 then Some (digit - 48) else None
+jobs_in (ten ∷ digit ∷ []) = if (ten == 49) && (nat_le 48 digit && nat_le digit 54) then Some (digit - 38) else None
+jobs_in (one ∷ two ∷ three ∷ rest) = None
+
+-- the number that stands in one word with `-j`
+abbrev pub joined_jobs : List ℕ → Option ℕ
+joined_jobs [] = None
+joined_jobs (one ∷ []) = None
+joined_jobs (one ∷ two ∷ digits) = if (one == 45) && (two == 106) then jobs_in digits else None
+
+-- whether the next word says how many commands are run at a time
+abbrev pub awaits_jobs : Jobs → Bool
+awaits_jobs spoken.NotSaid = false
+awaits_jobs spoken.Awaited = true
+awaits_jobs (spoken.Said number) = false
+
+-- options where the next word says how many commands are run at a time; none where it is said
+abbrev pub awaiting_jobs : Options → Option Options
+awaiting_jobs options = elim options.jobs [ spoken.NotSaid ↦ Some (record options { jobs = spoken.Awaited }) | spoken.Awaited ↦ None | spoken.Said number ↦ None ]
+
+-- options that say this number; none where there is none
+abbrev pub saying_jobs : Option ℕ → Options → Option Options
+saying_jobs None options = None
+saying_jobs (Some number) options = Some (record options { jobs = spoken.Said number })
+
+-- options and a number in one word with `-j`; none where it is said
+abbrev pub joining_jobs : Option ℕ → Options → Option Options
+joining_jobs number options = elim options.jobs [ spoken.NotSaid ↦ saying_jobs number options | spoken.Awaited ↦ None | spoken.Said said ↦ None ]
+
 -- options and one more of a name; each stands once, and one of `--quiet` and `--verbose` alone
 abbrev pub with_option : List ℕ → Options → Option Options
 with_option name options =
@@ -115,18 +163,33 @@ with_option name options =
     else if bytes_eq name (codes "--explain") then explaining options
     else if bytes_eq name (codes "--quiet") then showing true false options
     else if bytes_eq name (codes "--verbose") then showing false true options
-    else None
+    else if bytes_eq name (codes "-j") then awaiting_jobs options
+    else joining_jobs (joined_jobs name) options
 
--- options and one word more, which names the program behind `--proc`, whatever it is
+-- options and one word more, which names the program behind `--proc`, whatever it is, and is the number behind `-j`
 abbrev pub taken : Word → Options → Option Options
-taken word options = if is_awaited options.program then Some (record options { program = Named word.0 }) else with_option word.0 options
+taken word options =
+    if is_awaited options.program then Some (record options { program = Named word.0 })
+    else if awaits_jobs options.jobs then saying_jobs (jobs_in word.0) options
+    else with_option word.0 options
 
--- the update that options ask for; where their program is missing, it would stand at a place
+-- how many commands are run at a time, if that is said; a number that is missing would stand at a place
+abbrev pub jobs_said : ℕ → Jobs → Result (Option ℕ) ℕ
+jobs_said place spoken.NotSaid = Ok None
+jobs_said place spoken.Awaited = Err place
+jobs_said place (spoken.Said number) = Ok (Some number)
+
+-- the program that is named, if one is; one that is missing would stand at a place
+abbrev pub program_named : ℕ → Program → Result (Option (List ℕ)) ℕ
+program_named place NotNamed = Ok None
+program_named place Awaited = Err place
+program_named place (Named program) = Ok (Some program)
+
+-- the update that options ask for; where their program or their number is missing, it would stand at a place
 abbrev pub ended : ℕ → Options → Wanted
-ended place options = elim options.program [
-  | NotNamed ↦ Ok (Upd None options.keep_going options.quiet options.verbose options.explain)
-  | Awaited ↦ Err place
-  | Named program ↦ Ok (Upd (Some program) options.keep_going options.quiet options.verbose options.explain)
+ended place options = elim (program_named place options.program) [
+  | Err missing ↦ Err missing
+  | Ok program ↦ elim (jobs_said place options.jobs) [ Err missing ↦ Err missing | Ok jobs ↦ Ok (Upd program options.keep_going options.quiet options.verbose options.explain jobs) ]
 ]
 
 -- the update that options ask for, and those of further words, the first of which stands at a place
@@ -144,9 +207,15 @@ words_of_program (Named program) = 2
 abbrev pub one_if : Bool → ℕ
 one_if b = if b then 1 else 0
 
--- how many words made these options
+-- how many words speak of how many commands are run at a time, at most
+abbrev pub words_of_jobs : Jobs → ℕ
+words_of_jobs spoken.NotSaid = 0
+words_of_jobs spoken.Awaited = 1
+words_of_jobs (spoken.Said number) = 2
+
+-- how many words made these options, at most
 abbrev pub count : Options → ℕ
-count options = words_of_program options.program + one_if options.keep_going + one_if options.quiet + one_if options.verbose + one_if options.explain
+count options = words_of_program options.program + one_if options.keep_going + one_if options.quiet + one_if options.verbose + one_if options.explain + words_of_jobs options.jobs
 
 -- no words mean an update, and so do options without an order
 abbrev pub order : List Word → Wanted

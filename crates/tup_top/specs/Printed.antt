@@ -18,7 +18,7 @@ use Rattle.tup_promise.specs.Unopened.{Unopened}
 use Rattle.tup_promise.specs.declared.log.Log.{Log}
 use Rattle.tup_promise.specs.declared.stop.Stop.{Stop}
 use Rattle.tup_todo.specs.Lists.{ListsWhatIsDue}
-use Rattle.tup_update.specs.Because.{AreExplained, CountsChains}
+use Rattle.tup_update.specs.Because.{AreExplained, CountsChains, OfEnded}
 use Rattle.tup_todo.specs.declared.todo.Todo.{Todo as TodoLists}
 use Rattle.tup_top.specs.Lines.{lines, last_line, begun_line, compared_line, todo_lines}
 use Rattle.tup_top.specs.Order.{Wanted}
@@ -45,27 +45,27 @@ pub record Prints (status : Status) (text : List ℕ) (before now : ℕ) (old ne
   pub all : answer ≢ Memory → ¬ Rose before now → new ≡ old ++ text
   pub untold : answer ≡ Memory → status ≢ Memory → new ≡ old
 
--- What is said of why the rules were run that an update began: a chain of each where it is asked for, and else none. Over a kept site
--- each is the chain of a reason.
-abbrev pub SaysWhyOf : {S : Type 0} → Site S → S → Bool → List RuleName → List (Option (List ℕ)) → Type 0
-SaysWhyOf {S} site old explain ran chains =
-    CountsChains explain ran chains × (IsTrue site.tells → IsKeptBySome site old → IsTrue explain → AreExplained site old ran chains)
+-- What an update with this log says of why rules were run: a chain of each that came to a verdict where it is asked for, and else
+-- none. Over a kept site each is the chain of a reason.
+abbrev pub SaysWhyOf : {S : Type 0} → Site S → S → Bool → Log → List (Option (List ℕ)) → Type 0
+SaysWhyOf {S} site old explain log chains =
+    OfEnded log (λ ended. CountsChains explain ended chains) × (IsTrue site.tells → IsKeptBySome site old → IsTrue explain → OfEnded log (λ ended. AreExplained site old ended chains))
 
--- What an update told of itself that began these rules, was to go on after a bad verdict or not, said this of why they were run, and led
--- from one world to another. The site tells its worlds or doesn't: what the log says by why it stopped is said of every site.
-pub record Told (site keep_going : Bool) (says : List (Option (List ℕ)) → Type 0) (old new : World) (ran : List RuleName) : Type 0 where
+-- What an update by so many runners told of itself that began these rules, was to go on after a bad verdict or not, said this of why
+-- they were run, and led from one world to another. The site tells its worlds or doesn't: what the log says by why it stopped is said of every site.
+pub record Told (jobs : ℕ) (site keep_going : Bool) (says : Log → List (Option (List ℕ)) → Type 0) (old new : World) (ran : List RuleName) : Type 0 where
   pub log : Log
-  -- why the rules of `ran` were run, in their order
+  -- why the rules of `log.ended` were run, in their order
   pub because : List (Option (List ℕ))
-  pub said : says because
+  pub said : says log because
   pub stopped : Option Stop
   pub begun : log.ran ≡ ran
-  pub logged : IsLogged 1 keep_going log stopped
+  pub logged : IsLogged jobs keep_going log stopped
   pub unopened : IsTrue site → Unopened old new log stopped
 
 -- the lines of such an update
-pub record PrintsUpdate (site keep_going : Bool) (says : List (Option (List ℕ)) → Type 0) (world left : World) (ran : List RuleName) (before now : ℕ) (old new : List ℕ) (answer : Status) : Type 0 where
-  pub told : Told site keep_going says world left ran
+pub record PrintsUpdate (jobs : ℕ) (site keep_going : Bool) (says : Log → List (Option (List ℕ)) → Type 0) (world left : World) (ran : List RuleName) (before now : ℕ) (old new : List ℕ) (answer : Status) : Type 0 where
+  pub told : Told jobs site keep_going says world left ran
   pub ends : Ends before now (status_of told.log told.stopped) answer
   pub prints : Prints (status_of told.log told.stopped) (lines told.log told.because (status_of told.log told.stopped)) before now old new answer
 
@@ -95,14 +95,14 @@ demo_world = record { tree = demo_tree; store = header ++ 0 ∷ [] }
 
 -- the lines of the update that a demo shows, over a site of its own
 abbrev pub PrintsDemo : ℕ → ℕ → List ℕ → List ℕ → Status → Type 0
-PrintsDemo before now old new answer = (ran : List RuleName) × (left : World) × PrintsUpdate true false (λ chains. chains ≡ []) demo_world left ran before now old new answer
+PrintsDemo before now old new answer = (ran : List RuleName) × (left : World) × PrintsUpdate 1 true false (λ log chains. chains ≡ []) demo_world left ran before now old new answer
 
 -- the lines of what was asked for: of the update, of what it would do where the site is kept, of the beginning, of the comparison, of
--- the demo's update, or the line of the refusal
-abbrev pub Printed : Bool → Bool → Type 0 → (Bool → List RuleName → List (Option (List ℕ)) → Type 0) → Wanted → Next → World → World → List RuleName → ℕ → ℕ → List ℕ → List ℕ → Status → Type 0
-Printed site runner kept says (Ok (Upd program keep_going quiet verbose explain)) next world left ran before now old new answer = PrintsUpdate site keep_going (says explain ran) world left ran before now old new answer
-Printed site runner kept says (Ok Init) next world left ran before now old new answer = PrintsBegun before now old new answer
-Printed site runner kept says (Ok Todo) next world left ran before now old new answer = PrintsTodo kept world left before now old new answer
-Printed site runner kept says (Ok Verify) next world left ran before now old new answer = PrintsComparison site runner next world before now old new answer
-Printed site runner kept says (Ok Demo) next world left ran before now old new answer = PrintsDemo before now old new answer
-Printed site runner kept says (Err place) next world left ran before now old new answer = Prints (Usage place) (last_line (Usage place)) before now old new answer
+-- the demo's update, or the line of the refusal. The first number says by how many runners an update goes.
+abbrev pub Printed : ℕ → Bool → Bool → Type 0 → (Bool → Log → List (Option (List ℕ)) → Type 0) → Wanted → Next → World → World → List RuleName → ℕ → ℕ → List ℕ → List ℕ → Status → Type 0
+Printed jobs site runner kept says (Ok (Upd program keep_going quiet verbose explain number)) next world left ran before now old new answer = PrintsUpdate jobs site keep_going (says explain) world left ran before now old new answer
+Printed jobs site runner kept says (Ok Init) next world left ran before now old new answer = PrintsBegun before now old new answer
+Printed jobs site runner kept says (Ok Todo) next world left ran before now old new answer = PrintsTodo kept world left before now old new answer
+Printed jobs site runner kept says (Ok Verify) next world left ran before now old new answer = PrintsComparison site runner next world before now old new answer
+Printed jobs site runner kept says (Ok Demo) next world left ran before now old new answer = PrintsDemo before now old new answer
+Printed jobs site runner kept says (Err place) next world left ran before now old new answer = Prints (Usage place) (last_line (Usage place)) before now old new answer

@@ -26,14 +26,14 @@ use Rattle.tup_promise.specs.declared.log.Log.{Log}
 use Rattle.tup_promise.specs.declared.stop.Stop.{Stop}
 use Rattle.tup_promise.specs.declared.stop.Stop.TheVariants.{Outside}
 use Rattle.tup_top.specs.Status.{most, IfCame, IfCompared, IfBegan}
-use Rattle.tup_top.specs.Order.{Wanted, IsVerify, IsInit}
+use Rattle.tup_top.specs.Order.{Wanted, IsVerify, IsInit, used_of}
 use Rattle.tup_top.specs.declared.order.Order.TheVariants.{Init, Upd, Todo, Verify, Demo}
 use Rattle.tup_top.specs.declared.status.Status.{Status}
 use Rattle.tup_top.specs.declared.status.Status.TheVariants.{Done, Command, IllegalRead, IllegalWrite, Unwritten, TooManyReads, Usage, NotInit, AlreadyInit, BadStore, SiteFault, RunFault, SinkFault, Limit, Memory, Differs}
 
 -- a promise of an update, of what the update came to
 abbrev pub ForUpdate : Wanted → Status → (Option Stop → Type 0) → Type 0
-ForUpdate (Ok (Upd program keep_going quiet verbose explain)) status promise = IfCame status promise
+ForUpdate (Ok (Upd program keep_going quiet verbose explain jobs)) status promise = IfCame status promise
 ForUpdate (Ok Init) status promise = ⊤
 ForUpdate (Ok Todo) status promise = ⊤
 ForUpdate (Ok Verify) status promise = ⊤
@@ -42,7 +42,7 @@ ForUpdate (Err place) status promise = ⊤
 
 -- a promise of what finding out what an update would do came to
 abbrev pub ForTodo : Wanted → Status → (Option Stop → Type 0) → Type 0
-ForTodo (Ok (Upd program keep_going quiet verbose explain)) status promise = ⊤
+ForTodo (Ok (Upd program keep_going quiet verbose explain jobs)) status promise = ⊤
 ForTodo (Ok Init) status promise = ⊤
 ForTodo (Ok Todo) status promise = IfCame status promise
 ForTodo (Ok Verify) status promise = ⊤
@@ -51,7 +51,7 @@ ForTodo (Err place) status promise = ⊤
 
 -- a promise of a comparison, of what it came to
 abbrev pub ForVerify : Wanted → Status → (Result Compared Stop → Type 0) → Type 0
-ForVerify (Ok (Upd program keep_going quiet verbose explain)) status promise = ⊤
+ForVerify (Ok (Upd program keep_going quiet verbose explain jobs)) status promise = ⊤
 ForVerify (Ok Init) status promise = ⊤
 ForVerify (Ok Todo) status promise = ⊤
 ForVerify (Ok Verify) status promise = IfCompared status promise
@@ -60,7 +60,7 @@ ForVerify (Err place) status promise = ⊤
 
 -- a promise of a beginning, of how the project began
 abbrev pub ForInit : Wanted → Status → (Result Begun GraphFault → Type 0) → Type 0
-ForInit (Ok (Upd program keep_going quiet verbose explain)) status promise = ⊤
+ForInit (Ok (Upd program keep_going quiet verbose explain jobs)) status promise = ⊤
 ForInit (Ok Init) status promise = IfBegan status promise
 ForInit (Ok Todo) status promise = ⊤
 ForInit (Ok Verify) status promise = ⊤
@@ -75,7 +75,7 @@ Lasts left now begun = OnOk begun (PinsStore left now)
 -- where there was none; finding out what an update would do leaves all files; a comparison leaves a world that holds the same; and
 -- any other call the world as it was. None touches a file.
 abbrev pub NothingDone : Wanted → World → World → Type 0
-NothingDone (Ok (Upd program keep_going quiet verbose explain)) old new = ⊤
+NothingDone (Ok (Upd program keep_going quiet verbose explain jobs)) old new = ⊤
 NothingDone (Ok Init) old new = (new ≡ old) ⊎ BeginStep old old new
 NothingDone (Ok Todo) old new = TreeStays old new
 NothingDone (Ok Verify) old new = HoldsOn old new
@@ -111,8 +111,8 @@ OnceDone promise stopped = stopped ≡ None → promise
 abbrev pub Spares : World → World → Option Stop → Type 0
 Spares old new stopped = IfSome stopped (LeavesTree old new)
 
--- What an update did that began these rules and stopped so, by its log, where it was to go on after a bad verdict or not. Where
--- there was no memory, for its lines too, it had come to any of its ends. `jobs` is how many runners it has.
+-- What an update by so many runners did that began these rules and stopped so, by its log, where it was to go on after a bad verdict
+-- or not. Where there was no memory, for its lines too, it had come to any of its ends.
 abbrev pub Logs : ℕ → Bool → List RuleName → Option Stop → Type 0
 Logs jobs keep_going ran (Some (Outside NoMemory)) = (stopped : Option Stop) × (log : Log) × (log.ran ≡ ran) × IsLogged jobs keep_going log stopped
 Logs jobs keep_going ran stopped = (log : Log) × (log.ran ≡ ran) × IsLogged jobs keep_going log stopped
@@ -161,6 +161,30 @@ HasCountedCause before now (Differs path) = ⊥
 HasCountedCause before now Memory = OneFailedAtMost before now
 HasCountedCause before now other = AreSteady before now
 
+-- What the counts show whatever the number of runners. Once something has stopped an update, a command that still runs may find
+-- that the site or its runner fails: so a count that is blamed rose, and none rose where all was done, or where no rule was begun.
+abbrev pub HasSharedCause : Counts → Counts → Status → Type 0
+HasSharedCause before now (Done read ran removed) = AreSteady before now × (now.sink ≡ before.sink)
+HasSharedCause before now SinkFault = AreSteady before now × Rose before.sink now.sink
+HasSharedCause before now SiteFault = Rose before.site now.site
+HasSharedCause before now RunFault = OneRose before.runners now.runners
+HasSharedCause before now (Limit what number) = number ≡ most what
+HasSharedCause before now (Command rule status) = ⊤
+HasSharedCause before now (IllegalRead rule text) = ⊤
+HasSharedCause before now (IllegalWrite rule text) = ⊤
+HasSharedCause before now (Unwritten rule path) = ⊤
+HasSharedCause before now (TooManyReads rule) = ⊤
+HasSharedCause before now (Usage place) = ⊥
+HasSharedCause before now AlreadyInit = ⊥
+HasSharedCause before now (Differs path) = ⊥
+HasSharedCause before now Memory = ⊤
+HasSharedCause before now other = AreSteady before now
+
+-- the causes of an update by so many runners: for one, no count rises unseen
+pub record HasCrewCause (jobs : ℕ) (before now : Counts) (status : Status) : Type 0 where
+  pub any : HasSharedCause before now status
+  pub alone : jobs ≡ 1 → HasCountedCause before now status
+
 -- the same of a comparison, which may tell a difference
 abbrev pub HasComparedCause : Counts → Counts → Status → Type 0
 HasComparedCause before now (Differs path) = AreSteady before now
@@ -198,7 +222,7 @@ IsRefusal wrong other = ⊥
 
 -- the causes of every order
 abbrev pub HasPlainCause : Wanted → Counts → Counts → Status → Type 0
-HasPlainCause (Ok (Upd program keep_going quiet verbose explain)) before now status = HasCountedCause before now status
+HasPlainCause (Ok (Upd program keep_going quiet verbose explain jobs)) before now status = HasCrewCause (used_of jobs (length before.runners)) before now status
 HasPlainCause (Ok Init) before now status = (now.runners ≡ before.runners) × HasBegunCause before.site now.site before.sink now.sink status
 HasPlainCause (Ok Todo) before now status = HasCountedCause before now status
 HasPlainCause (Ok Verify) before now status = HasComparedCause before now status

@@ -1,5 +1,5 @@
 //! The top call.
-ghost use Rattle.std.specs.Prelude.{◌≡◌, IsTrue, drop, length, map};
+ghost use Rattle.std.specs.Prelude.{◌≡◌, IsTrue, drop, length, map, take};
 ghost use Rattle.std.specs.Result.{result_err};
 ghost use Rattle.tup_site.specs.Crash.{GoesOn};
 ghost use Rattle.tup_table.specs.Images.{OpenStep};
@@ -12,13 +12,14 @@ ghost use Rattle.tup_promise.specs.Crashes.{SourcesAndCrashes, SourcesStay};
 ghost use Rattle.tup_promise.specs.Finished.{IsSettled, ExactlyTheFiles};
 ghost use Rattle.tup_promise.specs.Kept.{IsKeptBySome, KeptHere};
 ghost use Rattle.tup_promise.specs.Needed.{OnlyWhatIsNeeded};
+ghost use Rattle.tup_promise.specs.Ran.{CrewRuns};
 ghost use Rattle.tup_promise.specs.States.{States};
 ghost use Rattle.tup_promise.specs.Unopened.{IsReadable};
 ghost use Rattle.tup_promise.specs.Users.{HasUsersFile, IsHeldUp};
 ghost use Rattle.tup_compare.specs.Compared.{HasCompared};
 ghost use Rattle.tup_compare.specs.Opened.{JustOpens};
-ghost use Rattle.tup_top.specs.Order.{BringsUp, IsUpdate, goes_on, order};
-ghost use Rattle.tup_top.specs.Crew.{IsCrew, CrewRuns, CrewCompares, NothingRun};
+ghost use Rattle.tup_top.specs.Order.{BringsUp, IsUpdate, goes_on, order, used};
+ghost use Rattle.tup_top.specs.Crew.{IsCrew, CrewCompares, NothingRun};
 ghost use Rattle.tup_top.specs.Lines.{last_line as line_of};
 ghost use Rattle.tup_top.specs.Printed.{Printed, Prints, SaysWhyOf};
 ghost use Rattle.tup_top.specs.Promise.{FindsOut, ForUpdate, ForInit, ForTodo, ForVerify};
@@ -29,12 +30,15 @@ ghost use Rattle.tup_top.specs.declared.status.Status.TheVariants.{Usage};
 
 use crate::init::init;
 use crate::order::{Order, OrderFault, Word, order_of};
+use crate::parting::used;
 use crate::print::tell;
 use crate::status::Status;
 use crate::todo::todo;
-use crate::update::{Ended, demo, update};
+use crate::update::{Ended, demo, update_by};
 use crate::verify::verify;
 use std::alloc::Global;
+use std::sync::Wait;
+use std::thread::Threads;
 use tup_partial::flags_are_of_rules;
 use tup_path::Items;
 use tup_rule::RuleName;
@@ -50,19 +54,21 @@ pub struct Ran<S, R> {
     pub site: S,
     /// The runners, in their order.
     pub crew: Vec<R>,
-    /// The rules that were begun, in order: the first runner ran their commands.
+    /// The rules that were begun, in order.
     pub ran: Items<RuleName>,
 }
 
 /// Carries out what the words ask for, and prints its lines to `out` in one write.
 ///
 /// `init` makes the store of a project where there is none. No words, or `upd`, update the files of
-/// the site; the first runner of the crew runs the commands, and `-k` goes on after a bad one with
-/// the rules that don't need it. `todo` lists what an update would remove and run, and changes no
-/// file. `verify` has it run those of a clean build beside them, and touches no file. `demo` shows
-/// an update of a small project in memory, and leaves site and crew alone. Other words are refused
-/// by the place of the first that can't stand there. A crew has 1 to 16 runners.
-pub fn tup<S: Site, R: Runner, K: Sink>(
+/// the site; the runners of the crew run the commands, side by side, `-j` says how many of them, and
+/// `-k` goes on after a bad command with the rules that don't need it. `todo` lists what an update
+/// would remove and run, and changes no file. `verify` has the first runner run those of a clean build
+/// beside them, and touches no file. `demo` shows an update of a small project in memory, and leaves
+/// site and crew alone. Other words are refused by the place of the first that can't stand there. A
+/// crew has 1 to 16 runners.
+pub fn tup<W: Threads + Wait + Sync, S: Site + Send, R: Runner + Send, K: Sink>(
+    rt: &W,
     alloc: Global,
     words: &[Word],
     site: S,
@@ -88,9 +94,10 @@ pub fn tup<S: Site, R: Runner, K: Sink>(
     ensures limits { IsTrue S.tells
         → ForUpdate (order words.now) result.status (IsWithin (S.world site)) }
     // Nothing is begun before the sources are read, and each rule that is begun comes to its end,
-    // but the last one where something else than a bad verdict stops it.
-    ensures logged { ForUpdate (order words.now) result.status
-        (Logs 1 (goes_on (order words.now)) result.ran) }
+    // but the last one of each runner where something else than a bad verdict stops it.
+    ensures logged { let jobs = used (order words.now) (length crew.items) in
+        ForUpdate (order words.now) result.status
+        (Logs jobs (goes_on (order words.now)) result.ran) }
     // Finding out what an update would do tells how it went on from the store, too. Over a kept site
     // a blame of the sources is true, and no more is to be run then than was due.
     ensures found_out { IsTrue S.tells → let old = S.world site in
@@ -112,8 +119,9 @@ pub fn tup<S: Site, R: Runner, K: Sink>(
         ForUpdate (order words.now) result.status (ExactlyTheFiles R.next old new) }
     ensures only_what_is_needed { KeptHere S.Site.own R.Runner.own site
         → let old = S.world site in let new = S.world result.site in
+        let jobs = used (order words.now) (length crew.items) in
         ForUpdate (order words.now) result.status
-        (OnlyWhatIsNeeded R.next (goes_on (order words.now)) 1 old new result.ran) }
+        (OnlyWhatIsNeeded R.next (goes_on (order words.now)) jobs old new result.ran) }
     ensures blamed { KeptHere S.Site.own R.Runner.own site
         → let old = S.world site in let new = S.world result.site in
         ForUpdate (order words.now) result.status (IsToBlame R.next old new result.ran) }
@@ -138,11 +146,15 @@ pub fn tup<S: Site, R: Runner, K: Sink>(
         → ForUpdate (order words.now) result.status
         (IsHeldUp S.Site.own site result.site result.ran) }
     ensures crew { length result.crew.items ≡ length crew.items }
-    // All runners but the first are as they were.
-    ensures others { drop 1 result.crew.items ≡ drop 1 crew.items }
+    // All runners behind those that are used are as they were.
+    ensures others { let jobs = used (order words.now) (length crew.items) in
+        drop jobs result.crew.items ≡ drop jobs crew.items }
     ensures nothing_run { NothingRun (order words.now) crew.items result.crew.items result.ran }
-    ensures ran { IsTrue R.tells_ran → ForUpdate (order words.now) result.status
-        (CrewRuns result.ran (map R.ran crew.items) (map R.ran result.crew.items)) }
+    ensures ran { IsTrue R.tells_ran
+        → let jobs = used (order words.now) (length crew.items) in
+        ForUpdate (order words.now) result.status
+        (CrewRuns result.ran (map R.ran (take jobs crew.items))
+        (map R.ran (take jobs result.crew.items))) }
     ensures plain_cause { let before = counts S.faults R.faults K.faults site crew.items out.old in
         let now = counts S.faults R.faults K.faults result.site result.crew.items out.new in
         HasPlainCause (order words.now) before now result.status }
@@ -174,7 +186,8 @@ pub fn tup<S: Site, R: Runner, K: Sink>(
         let old = S.world site in let new = S.world result.site in
         let kept = IsTrue S.tells × IsKeptBySome S.Site.own site in
         let says = SaysWhyOf S.Site.own site in
-        Printed S.tells R.tells kept says (order words.now) R.next old new result.ran before now
+        let jobs = used (order words.now) (length crew.items) in
+        Printed jobs S.tells R.tells kept says (order words.now) R.next old new result.ran before now
         (K.held out.old) (K.held out.new) result.status }
 {
     flags_are_of_rules();
@@ -183,15 +196,21 @@ pub fn tup<S: Site, R: Runner, K: Sink>(
             Order::Upd {
                 keep_going,
                 explain,
+                jobs,
                 ..
             },
         ) => {
-            let mut crew = crew;
             let asked = Asked {
                 keep_going,
                 explain,
             };
-            let Ended { status, site, ran } = update(alloc, site, &mut crew[0], asked, out);
+            let jobs = used(jobs, crew.len());
+            let Ended {
+                status,
+                site,
+                crew,
+                ran,
+            } = update_by(rt, alloc, site, crew, jobs, asked, out);
             Ran {
                 status,
                 site,
@@ -231,7 +250,7 @@ pub fn tup<S: Site, R: Runner, K: Sink>(
             }
         }
         Ok(Order::Demo) => Ran {
-            status: demo(alloc, out),
+            status: demo(rt, alloc, out),
             site,
             crew,
             ran: Items::new(alloc),

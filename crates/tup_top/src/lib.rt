@@ -10,6 +10,7 @@ mod circle;
 mod init;
 mod options;
 mod order;
+mod parting;
 mod print;
 mod status;
 mod todo;
@@ -17,5 +18,6 @@ mod update;
 mod verify;
 
 pub use call::{Ran, tup};
+pub use options::{jobs_in, joined_jobs};
 pub use order::{Order, OrderFault, Word, order_of};
 pub use status::{Status, What};

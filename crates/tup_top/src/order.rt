@@ -3,7 +3,7 @@ ghost use Rattle.std.specs.Prelude.{◌≡◌, ◌+◌, ◌≤◌};
 ghost use Rattle.tup_top.specs.Order as specs;
 ghost use Rattle.tup_top.specs.Order.{Answers, order};
 
-use crate::options::{Options, Program};
+use crate::options::{Jobs, Options, Program};
 use std::alloc::AllocError;
 use thiserror::Error;
 use tup_path::Text;
@@ -29,6 +29,8 @@ pub enum Order {
         verbose: bool,
         /// Whether it says why each rule was run.
         explain: bool,
+        /// How many commands it runs at a time, if that is said.
+        jobs: Option<u32>,
     },
     /// List what an update would remove and run, and do neither.
     Todo,
@@ -123,11 +125,17 @@ fn ended(place: u32, given: Options) -> Result<Order, OrderFault>
         quiet,
         verbose,
         explain,
+        jobs,
     } = given;
     let program = match program {
         Program::NotNamed => None,
         Program::Awaited => return Err(OrderFault::Usage { place }),
         Program::Named(program) => Some(program),
+    };
+    let jobs = match jobs {
+        Jobs::NotSaid => None,
+        Jobs::Awaited => return Err(OrderFault::Usage { place }),
+        Jobs::Said(number) => Some(number),
     };
     Ok(Order::Upd {
         program,
@@ -135,5 +143,6 @@ fn ended(place: u32, given: Options) -> Result<Order, OrderFault>
         quiet,
         verbose,
         explain,
+        jobs,
     })
 }

@@ -1,5 +1,5 @@
 //! An update, and what is told of it.
-ghost use Rattle.std.specs.Prelude.{◌≡◌, [], ◌∷◌, ◌++◌, IsTrue, IfOk, IfErr};
+ghost use Rattle.std.specs.Prelude.{◌≡◌, ◌<◌, ◌≤◌, [], ◌∷◌, ◌++◌, IsTrue, IfOk, IfErr, drop, length, map, take};
 ghost use Rattle.tup_demo.specs.Steady.{world_in, tree_in, store_in};
 ghost use Rattle.tup_site.specs.Crash.{GoesOn};
 ghost use Rattle.tup_table.specs.Images.{OpenStep};
@@ -13,23 +13,28 @@ ghost use Rattle.tup_promise.specs.Finished.{IsSettled, ExactlyTheFiles};
 ghost use Rattle.tup_promise.specs.Kept.{IsKeptBySome, KeptHere};
 ghost use Rattle.tup_promise.specs.Needed.{OnlyWhatIsNeeded};
 ghost use Rattle.tup_promise.specs.States.{States};
-ghost use Rattle.tup_promise.specs.Ran.{RunsThese};
+ghost use Rattle.tup_promise.specs.Ran.{CrewRuns};
 ghost use Rattle.tup_promise.specs.Unopened.{IsReadable};
 ghost use Rattle.tup_promise.specs.Users.{HasUsersFile, IsHeldUp};
+ghost use Rattle.tup_top.specs.Crew.{IsCrew};
 ghost use Rattle.tup_top.specs.Lines.{lines as lines_of};
 ghost use Rattle.tup_top.specs.Printed.{Ends, IsDone, Prints, PrintsDemo, PrintsUpdate, SaysWhyOf};
 ghost use Rattle.tup_top.specs.Printed.{demo_world};
-ghost use Rattle.tup_top.specs.Promise.{HasCountedCause, HasDemoCause, Logs, OnceDone};
+ghost use Rattle.tup_top.specs.Promise.{HasCrewCause, HasDemoCause, Logs, OnceDone};
 ghost use Rattle.tup_top.specs.Promise.{OpensStore, Spares, counts};
 ghost use Rattle.tup_top.specs.Status.{IfCame, status_of as told_by};
 
+use crate::parting::{part_off, rejoined};
 use crate::print::{lines, print, tell};
 use crate::status::{Status, status_of, status_of_begun};
 use std::alloc::Global;
+use std::sync::Wait;
+use std::thread::Threads;
 use tup_demo::{SteadySite, demo_project};
 use tup_graph::GraphFault;
 use tup_ledger::begin;
 use tup_mini::Mini;
+use tup_partial::flags_are_of_rules;
 use tup_path::{Items, Text};
 use tup_promise::{Log, Stop};
 use tup_rule::RuleName;
@@ -38,24 +43,30 @@ use tup_site::{MemRefused, Site};
 use tup_tell::Sink;
 use tup_update::{Asked, Updated, update_site};
 
-/// How an update ended, with the site as it left it.
+/// How an update ended, with the site and the crew as it left them.
 #[derive(Drop)]
-pub(crate) struct Ended<S> {
+pub(crate) struct Ended<S, R> {
     pub status: Status,
     pub site: S,
+    /// The runners, in their order.
+    pub crew: Vec<R>,
     /// The rules that it began, in order.
     pub ran: Items<RuleName>,
 }
 
-/// Updates the files of a site by a runner, going on after a bad verdict or not, and prints the
-/// lines of this update, with why each rule was run where that is asked.
-pub(crate) fn update<S: Site, R: Runner, K: Sink>(
+/// Updates the files of a site by the first `jobs` runners of a crew; the others are as they were.
+/// Where there is no memory to part them nothing is done.
+pub(crate) fn update_by<W: Threads + Wait + Sync, S: Site + Send, R: Runner + Send, K: Sink>(
+    rt: &W,
     alloc: Global,
     site: S,
-    runner: &mut R,
+    crew: Vec<R>,
+    jobs: usize,
     asked: Asked,
     out: &mut K,
-) -> Ended<S>
+) -> Ended<S, R>
+    requires crew { IsCrew crew.items }
+    requires jobs { (0 < jobs) × (jobs ≤ length crew.items) }
     ensures opens_store { IsTrue S.tells → let old = S.world site in
         let new = S.world result.site in
         IfCame result.status (OpensStore old new result.ran) }
@@ -68,7 +79,7 @@ pub(crate) fn update<S: Site, R: Runner, K: Sink>(
     ensures only_what_is_needed { KeptHere S.Site.own R.Runner.own site
         → let old = S.world site in let new = S.world result.site in
         IfCame result.status
-        (OnlyWhatIsNeeded R.next asked.keep_going 1 old new result.ran) }
+        (OnlyWhatIsNeeded R.next asked.keep_going jobs old new result.ran) }
     ensures blamed { KeptHere S.Site.own R.Runner.own site
         → let old = S.world site in let new = S.world result.site in
         IfCame result.status (IsToBlame R.next old new result.ran) }
@@ -90,30 +101,121 @@ pub(crate) fn update<S: Site, R: Runner, K: Sink>(
     ensures spares { IsTrue S.tells → let old = S.world site in
         let new = S.world result.site in IfCame result.status (Spares old new) }
     // Whatever site and runner are: how far it came, what became of the rules, and why it ended.
-    ensures logged { IfCame result.status (Logs 1 asked.keep_going result.ran) }
+    ensures logged { IfCame result.status (Logs jobs asked.keep_going result.ran) }
     ensures counted_cause { let counted = counts S.faults R.faults K.faults in
-        let before = counted site (runner.old ∷ []) out.old in
-        let now = counted result.site (runner.new ∷ []) out.new in
-        HasCountedCause before now result.status }
+        let before = counted site crew.items out.old in
+        let now = counted result.site result.crew.items out.new in
+        HasCrewCause jobs before now result.status }
     ensures ran { IsTrue R.tells_ran → IfCame result.status
-        (RunsThese result.ran (R.ran runner.old) (R.ran runner.new)) }
+        (CrewRuns result.ran (map R.ran (take jobs crew.items))
+        (map R.ran (take jobs result.crew.items))) }
     ensures printed { IsTrue K.tells
         → let before = K.faults out.old in let now = K.faults out.new in
         let old = S.world site in let new = S.world result.site in
-        let says = SaysWhyOf S.Site.own site asked.explain result.ran in
-        PrintsUpdate S.tells asked.keep_going says old new result.ran before now
+        let says = SaysWhyOf S.Site.own site asked.explain in
+        PrintsUpdate jobs S.tells asked.keep_going says old new result.ran before now
         (K.held out.old) (K.held out.new) result.status }
+    ensures crew { length result.crew.items ≡ length crew.items }
+    ensures others { drop jobs result.crew.items ≡ drop jobs crew.items }
+{
+    flags_are_of_rules();
+    let mut crew = crew;
+    match part_off(alloc, &mut crew, jobs) {
+        Ok(others) => {
+            let Ended {
+                status,
+                site,
+                crew,
+                ran,
+            } = update(rt, alloc, site, crew, asked, out);
+            Ended {
+                status,
+                site,
+                crew: rejoined(crew, others),
+                ran,
+            }
+        }
+        Err(_) => Ended {
+            status: Status::Memory,
+            site,
+            crew,
+            ran: Items::new(alloc),
+        },
+    }
+}
+
+/// Updates the files of a site by a crew, going on after a bad verdict or not, and prints the
+/// lines of this update, with why each rule was run where that is asked.
+pub(crate) fn update<W: Threads + Wait + Sync, S: Site + Send, R: Runner + Send, K: Sink>(
+    rt: &W,
+    alloc: Global,
+    site: S,
+    crew: Vec<R>,
+    asked: Asked,
+    out: &mut K,
+) -> Ended<S, R>
+    requires crew { IsCrew crew.items }
+    ensures opens_store { IsTrue S.tells → let old = S.world site in
+        let new = S.world result.site in
+        IfCame result.status (OpensStore old new result.ran) }
+    ensures closed { IsTrue S.tells → (IsReadable (S.world site).store → ⊥)
+        → GoesOn S.moment S.left_since site result.site OpenStep }
+    // Over a kept site, where site and runner tell.
+    ensures exactly_the_files { KeptHere S.Site.own R.Runner.own site
+        → let old = S.world site in let new = S.world result.site in
+        IfCame result.status (ExactlyTheFiles R.next old new) }
+    ensures only_what_is_needed { KeptHere S.Site.own R.Runner.own site
+        → let old = S.world site in let new = S.world result.site in
+        IfCame result.status
+        (OnlyWhatIsNeeded R.next asked.keep_going (length crew.items) old new result.ran) }
+    ensures blamed { KeptHere S.Site.own R.Runner.own site
+        → let old = S.world site in let new = S.world result.site in
+        IfCame result.status (IsToBlame R.next old new result.ran) }
+    ensures settled { KeptHere S.Site.own R.Runner.own site
+        → IfCame result.status (OnceDone (IsSettled S.Site.own result.site)) }
+    ensures sources_and_crashes { KeptHere S.Site.own R.Runner.own site
+        → SourcesAndCrashes S.Site.own R.next site result.site }
+    ensures states { KeptHere S.Site.own R.Runner.own site
+        → States R.next (S.world site) (S.world result.site) }
+    ensures kept { KeptHere S.Site.own R.Runner.own site
+        → let known = S.known result.site in
+        IsKeptNow S.Site.own R.next tupfiles known result.site }
+    // Whatever the runner is.
+    ensures sources_stay { IsTrue S.tells → IsKeptBySome S.Site.own site
+        → SourcesStay S.Site.own site result.site }
+    ensures users { IsTrue S.tells → IsKeptBySome S.Site.own site → HasUsersFile (S.world site)
+        → IfCame result.status (IsHeldUp S.Site.own site result.site result.ran) }
+    ensures limits { IsTrue S.tells → IfCame result.status (IsWithin (S.world site)) }
+    ensures spares { IsTrue S.tells → let old = S.world site in
+        let new = S.world result.site in IfCame result.status (Spares old new) }
+    // Whatever site and runner are: how far it came, what became of the rules, and why it ended.
+    ensures logged { IfCame result.status (Logs (length crew.items) asked.keep_going result.ran) }
+    ensures counted_cause { let counted = counts S.faults R.faults K.faults in
+        let before = counted site crew.items out.old in
+        let now = counted result.site result.crew.items out.new in
+        HasCrewCause (length crew.items) before now result.status }
+    ensures ran { IsTrue R.tells_ran → IfCame result.status
+        (CrewRuns result.ran (map R.ran crew.items) (map R.ran result.crew.items)) }
+    ensures printed { IsTrue K.tells
+        → let before = K.faults out.old in let now = K.faults out.new in
+        let old = S.world site in let new = S.world result.site in
+        let says = SaysWhyOf S.Site.own site asked.explain in
+        PrintsUpdate (length crew.items) S.tells asked.keep_going says old new result.ran before now
+        (K.held out.old) (K.held out.new) result.status }
+    ensures crew { length result.crew.items ≡ length crew.items }
 {
     let Updated {
         site,
+        crew,
         log,
         because,
         stopped,
-    } = update_site(alloc, site, runner, asked);
+    } = update_site(rt, alloc, site, crew, asked);
     let status = tell_all(alloc, &log, because.as_slice(), stopped, out);
     Ended {
         status,
         site,
+        crew,
         ran: log.ran,
     }
 }
@@ -142,7 +244,7 @@ fn tell_all<K: Sink>(
 }
 
 /// Begins a small project in memory, updates it, and prints the lines of this update.
-pub(crate) fn demo<K: Sink>(alloc: Global, out: &mut K) -> Status
+pub(crate) fn demo<W: Threads + Wait + Sync, K: Sink>(rt: &W, alloc: Global, out: &mut K) -> Status
     ensures cause { HasDemoCause (K.faults out.old) (K.faults out.new) result }
     ensures printed { IsTrue K.tells
         → let before = K.faults out.old in let now = K.faults out.new in
@@ -152,9 +254,22 @@ pub(crate) fn demo<K: Sink>(alloc: Global, out: &mut K) -> Status
         keep_going: false,
         explain: false,
     };
-    match demo_site(alloc) {
-        Ok(site) => update(alloc, site, &mut Mini::new(alloc), plain, out).status,
+    match demo_parts(alloc) {
+        Ok((site, crew)) => update(rt, alloc, site, crew, plain, out).status,
         Err(fault) => tell(alloc, status_of_begun(Err(fault)), out),
+    }
+}
+
+/// The small project, begun, and the crew that updates it. They are refused for want of memory alone.
+fn demo_parts(alloc: Global) -> Result<(SteadySite, Vec<Mini>), GraphFault>
+    ensures holds { IfOk result (λ parts. world_in parts.0 ≡ demo_world) }
+    ensures alone { IfOk result (λ parts. length parts.1.items ≡ 1) }
+    ensures memory { IfErr result (λ fault. fault ≡ GraphFault.Memory) }
+{
+    let site = demo_site(alloc)?;
+    match vec![in alloc; Mini::new(alloc)] {
+        Ok(crew) => Ok((site, crew)),
+        Err(_) => Err(GraphFault::Memory),
     }
 }
 

@@ -1,7 +1,18 @@
-use Rattle.std.proofs.Common.{refl}
+use denote.Param.Send.{sendable}
+use Rattle.std.proofs.Common.{ℕ, refl, subst, sym}
+use Rattle.std.proofs.Crossing.{crosses}
+use Rattle.std.proofs.lemmas.List.{length-map}
+use Rattle.tup_site.specs.Memory.{world_in}
 use Rattle.tup_site.specs.contracts.memory_calls.MemSiteSite.TheImpl as memory
+use Rattle.tup_site.proofs.memory.MemSite.TheSendSync as of_memory
 use Rattle.tup_promise.specs.Kept.{KeptHere}
+use Rattle.tup_promise.specs.Needed.{OnlyWhatIsNeeded}
+use Rattle.tup_top.specs.Order.{goes_on, order, used}
+use Rattle.tup_top.specs.Promise.{ForUpdate}
 use Rattle.tup_history.proofs.run.run.Goals as goal
+
+pub tup-requires-send-S : goal.tup-requires-send-S
+tup-requires-send-S g c κs lives = search (sendable, crosses, of_memory.the_send) depth 20
 
 pub returns-clause-keeps : goal.returns-clause-keeps
 returns-clause-keeps g c = record {
@@ -27,9 +38,13 @@ returns-clause-leaves g c = record {
 pub returns-clause-updates : goal.returns-clause-updates
 returns-clause-updates g c = λ means kept.
     let here : KeptHere memory.ghosts g.R.Runner c.args.site = record { tells = refl; means = means; kept = kept } in
+    let wanted = order c.args.words.now in
+    let old = world_in c.args.site in
+    let new = world_in c.tup.result.site in
     record {
       files = c.tup.ensures.exactly_the_files here;
-      needed = c.tup.ensures.only_what_is_needed here;
+      needed = subst (λ (many : ℕ). ForUpdate wanted c.tup.result.status (OnlyWhatIsNeeded g.R.Runner.next (goes_on wanted) (used wanted many) old new c.tup.result.ran))
+          (sym (length-map c.args.crew.items g.R.Runner.faults)) (c.tup.ensures.only_what_is_needed here);
       blamed = c.tup.ensures.blamed here;
       settled = c.tup.ensures.settled here;
       states = c.tup.ensures.states here;

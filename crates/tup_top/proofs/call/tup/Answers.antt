@@ -1,4 +1,5 @@
-use Rattle.std.proofs.Common.{IsTrue, map, inl, refl, sym, subst, arith}
+use Rattle.std.proofs.Common.{◌≡◌, ◌∙◌, ◌<◌, ◌≤◌, ℕ, IsTrue, ap, drop, length, map, take, inl, refl, sym, subst, arith}
+use Rattle.std.proofs.lemmas.List.{length-map}
 use Rattle.std.specs.Prelude.{slice_set}
 use Rattle.std.proofs.lemmas.Option.{none-some}
 use Rattle.std.specs.Result.{result_err}
@@ -16,56 +17,96 @@ use Rattle.tup_promise.specs.Kept.{IsKeptBySome}
 use Rattle.tup_promise.specs.Needed.{OnlyWhatIsNeeded}
 use Rattle.tup_promise.specs.Users.{IsHeldUp}
 use Rattle.tup_ends.proofs.Staying.{sources_kept}
-use Rattle.tup_top.specs.Crew.{CrewRuns, CrewCompares}
-use Rattle.tup_top.specs.Order.{Wanted, goes_on, order}
-use Rattle.tup_top.specs.Printed.{SaysWhyOf}
-use Rattle.tup_top.specs.Promise.{OnceDone, FindsOut, ForTodo, ForUpdate, ForVerify, Lasts, Logs, NothingDone, QuietStep, HasPlainCause, Spares, counts}
+use Rattle.tup_promise.specs.Ran.{CrewRuns}
+use Rattle.tup_top.specs.Crew.{CrewCompares}
+use Rattle.tup_top.specs.Order.{Wanted, goes_on, order, used, used_of}
+use Rattle.tup_top.specs.Printed.{Printed, PrintsUpdate, SaysWhyOf}
+use Rattle.tup_top.specs.Status.{IfCame}
+use Rattle.tup_top.specs.Promise.{OnceDone, FindsOut, ForTodo, ForUpdate, ForVerify, Lasts, Logs, NothingDone, QuietStep, HasCrewCause, HasPlainCause, Spares, counts}
 use Rattle.tup_top.proofs.Begun.{initializes_so}
-use Rattle.tup_top.proofs.Crewed.{crew_cause, crew_compared, crew_runs, crew_compares, no_crew_ran, others_stay}
+use Rattle.tup_top.proofs.Crewed.{crew_compared, crew_compares, no_crew_ran, others_stay}
+use Rattle.tup_top.proofs.Parted.{no_runs, used_fits}
 use Rattle.tup_top.proofs.Causes.{says_none}
 use Rattle.tup_top.proofs.Idle.{idle, memory_causes, memory_found_out, memory_for_init, memory_for_update, memory_for_verify, memory_logs, memory_opens, memory_prints}
 use Rattle.tup_top.proofs.Success.{compares_so}
 use Rattle.tup_top.proofs.Untouched.{untouched_crashes, untouched_flags, untouched_needed, untouched_states}
 use Rattle.tup_top.proofs.call.tup.Goals as goal
 
+-- an update, by as many runners as the words say
+
+pub update_by-status-requires-clause-crew : goal.update_by-status-requires-clause-crew
+update_by-status-requires-clause-crew g c κs lives = c.requires.crew
+
+pub update_by-status-requires-clause-jobs : goal.update_by-status-requires-clause-jobs
+update_by-status-requires-clause-jobs g c κs lives = subst (λ (n : ℕ). (0 < n) × (n ≤ length c.args.crew.items)) (sym (c.used-jobs.ensures ∙ ap (used_of c.in-Ok-Upd.jobs) (c.len.ensures ∙ c.args.crew.ok.0))) (used_fits c.in-Ok-Upd.jobs (length c.args.crew.items) c.requires.crew.0)
+
 pub returns-in-Ok-Upd-clause-plain_cause : goal.returns-in-Ok-Upd-clause-plain_cause
 returns-in-Ok-Upd-clause-plain_cause g c =
     let wanted = rw c.in-Ok-Upd.is at c.order_of.ensures in
     let is = rw c.in-Ok-Upd.field-0-is at wanted in
-    let crew = slice_set c.args.crew.items 0 c.update-status.new.runner in
+    let update = c.update_by-status in
     let before = counts g.S.Site.faults g.R.Runner.faults g.K.Sink.faults c.args.site c.args.crew.items c.args.out.now in
-    let now = counts g.S.Site.faults g.R.Runner.faults g.K.Sink.faults c.update-status.result.site crew c.update-status.new.out in
-    subst (λ (w : Wanted). HasPlainCause w before now c.update-status.result.status) (sym is)
-    (crew_cause g.R.Runner.faults c.args.crew.items c.index_mut.result.now c.update-status.new.runner (g.S.Site.faults c.args.site) (g.S.Site.faults c.update-status.result.site) (g.K.Sink.faults c.args.out.now) (g.K.Sink.faults c.update-status.new.out)
-    c.update-status.result.status c.requires.crew.0 c.index_mut.ensures.value c.update-status.ensures.counted_cause)
+    let now = counts g.S.Site.faults g.R.Runner.faults g.K.Sink.faults update.result.site update.result.crew.items update.new.out in
+    let jobs = c.used-jobs.ensures ∙ ap (used_of c.in-Ok-Upd.jobs) (c.len.ensures ∙ (c.args.crew.ok.0 ∙ sym (length-map c.args.crew.items g.R.Runner.faults))) in
+    subst (λ (w : Wanted). HasPlainCause w before now update.result.status) (sym is) (subst (λ (n : ℕ). HasCrewCause n before now update.result.status) jobs update.ensures.counted_cause)
 
 pub returns-in-Ok-Upd-clause-logged : goal.returns-in-Ok-Upd-clause-logged
 returns-in-Ok-Upd-clause-logged g c =
     let wanted = rw c.in-Ok-Upd.is at c.order_of.ensures in
     let is = rw c.in-Ok-Upd.field-0-is at wanted in
-    subst (λ (w : Wanted). ForUpdate w c.update-status.result.status (Logs 1 (goes_on w) c.update-status.result.ran)) (sym is) c.update-status.ensures.logged
+    let update = c.update_by-status in
+    subst (λ (w : Wanted). ForUpdate w update.result.status (Logs (used w (length c.args.crew.items)) (goes_on w) update.result.ran)) (sym is)
+    (subst (λ (n : ℕ). IfCame update.result.status (Logs n c.in-Ok-Upd.keep_going update.result.ran)) (c.used-jobs.ensures ∙ ap (used_of c.in-Ok-Upd.jobs) (c.len.ensures ∙ c.args.crew.ok.0)) update.ensures.logged)
+
+pub returns-in-Ok-Upd-clause-only_what_is_needed : goal.returns-in-Ok-Upd-clause-only_what_is_needed
+returns-in-Ok-Upd-clause-only_what_is_needed g c = λ here.
+    let wanted = rw c.in-Ok-Upd.is at c.order_of.ensures in
+    let is = rw c.in-Ok-Upd.field-0-is at wanted in
+    let update = c.update_by-status in
+    let old = g.S.Site.world c.args.site in
+    let new = g.S.Site.world update.result.site in
+    subst (λ (w : Wanted). ForUpdate w update.result.status (OnlyWhatIsNeeded g.R.Runner.next (goes_on w) (used w (length c.args.crew.items)) old new update.result.ran)) (sym is)
+    (subst (λ (n : ℕ). IfCame update.result.status (OnlyWhatIsNeeded g.R.Runner.next c.in-Ok-Upd.keep_going n old new update.result.ran)) (c.used-jobs.ensures ∙ ap (used_of c.in-Ok-Upd.jobs) (c.len.ensures ∙ c.args.crew.ok.0)) (update.ensures.only_what_is_needed here))
 
 pub returns-in-Ok-Upd-clause-ran : goal.returns-in-Ok-Upd-clause-ran
 returns-in-Ok-Upd-clause-ran g c = λ tells.
     let wanted = rw c.in-Ok-Upd.is at c.order_of.ensures in
     let is = rw c.in-Ok-Upd.field-0-is at wanted in
-    let crew = slice_set c.args.crew.items 0 c.update-status.new.runner in
-    let runs = CrewRuns c.update-status.result.ran (map g.R.Runner.ran c.args.crew.items) (map g.R.Runner.ran crew) in
-    subst (λ (w : Wanted). ForUpdate w c.update-status.result.status runs) (sym is)
-    (crew_runs g.R.Runner.ran c.args.crew.items c.index_mut.result.now c.update-status.new.runner c.requires.crew.0 c.index_mut.ensures.value c.update-status.result.ran
-    c.update-status.result.status (c.update-status.ensures.ran tells))
+    let update = c.update_by-status in
+    let runs = λ (n : ℕ). CrewRuns update.result.ran (map g.R.Runner.ran (take n c.args.crew.items)) (map g.R.Runner.ran (take n update.result.crew.items)) in
+    subst (λ (w : Wanted). ForUpdate w update.result.status (runs (used w (length c.args.crew.items)))) (sym is)
+    (subst (λ (n : ℕ). IfCame update.result.status (runs n)) (c.used-jobs.ensures ∙ ap (used_of c.in-Ok-Upd.jobs) (c.len.ensures ∙ c.args.crew.ok.0)) (update.ensures.ran tells))
 
 pub returns-in-Ok-Upd-clause-others : goal.returns-in-Ok-Upd-clause-others
-returns-in-Ok-Upd-clause-others g c = others_stay c.args.crew.items c.update-status.new.runner
+returns-in-Ok-Upd-clause-others g c =
+    let wanted = rw c.in-Ok-Upd.is at c.order_of.ensures in
+    let is = rw c.in-Ok-Upd.field-0-is at wanted in
+    let crew = c.args.crew.items in
+    let now = c.update_by-status.result.crew.items in
+    subst (λ (w : Wanted). drop (used w (length crew)) now ≡ drop (used w (length crew)) crew) (sym is) (subst (λ (n : ℕ). drop n now ≡ drop n crew) (c.used-jobs.ensures ∙ ap (used_of c.in-Ok-Upd.jobs) (c.len.ensures ∙ c.args.crew.ok.0)) c.update_by-status.ensures.others)
+
+pub returns-in-Ok-Upd-clause-printed : goal.returns-in-Ok-Upd-clause-printed
+returns-in-Ok-Upd-clause-printed g c = λ shows.
+    let wanted = rw c.in-Ok-Upd.is at c.order_of.ensures in
+    let is = rw c.in-Ok-Upd.field-0-is at wanted in
+    let update = c.update_by-status in
+    let old = g.S.Site.world c.args.site in
+    let new = g.S.Site.world update.result.site in
+    let before = g.K.Sink.faults c.args.out.now in
+    let now = g.K.Sink.faults update.new.out in
+    let held = g.K.Sink.held c.args.out.now in
+    let holds = g.K.Sink.held update.new.out in
+    subst (λ (w : Wanted). Printed (used w (length c.args.crew.items)) g.S.Site.tells g.R.Runner.tells (IsTrue g.S.Site.tells × IsKeptBySome g.S.Site c.args.site) (SaysWhyOf g.S.Site c.args.site) w g.R.Runner.next old new update.result.ran before now held holds update.result.status) (sym is)
+    (subst (λ (n : ℕ). PrintsUpdate n g.S.Site.tells c.in-Ok-Upd.keep_going (SaysWhyOf g.S.Site c.args.site c.in-Ok-Upd.explain) old new update.result.ran before now held holds update.result.status) (c.used-jobs.ensures ∙ ap (used_of c.in-Ok-Upd.jobs) (c.len.ensures ∙ c.args.crew.ok.0)) (update.ensures.printed shows))
 
 pub returns-in-Ok-Upd-clause-states : goal.returns-in-Ok-Upd-clause-states
-returns-in-Ok-Upd-clause-states g c = λ here _. c.update-status.ensures.states here
+returns-in-Ok-Upd-clause-states g c = λ here _. c.update_by-status.ensures.states here
 
 pub returns-in-Ok-Upd-clause-kept : goal.returns-in-Ok-Upd-clause-kept
-returns-in-Ok-Upd-clause-kept g c = λ here _. c.update-status.ensures.kept here
+returns-in-Ok-Upd-clause-kept g c = λ here _. c.update_by-status.ensures.kept here
 
 pub returns-in-Ok-Upd-clause-sources_stay : goal.returns-in-Ok-Upd-clause-sources_stay
-returns-in-Ok-Upd-clause-sources_stay g c = λ tells some _. c.update-status.ensures.sources_stay tells some
+returns-in-Ok-Upd-clause-sources_stay g c = λ tells some _. c.update_by-status.ensures.sources_stay tells some
 
 -- what an update would do
 
@@ -108,7 +149,12 @@ returns-in-Ok-Todo-clause-sources_stay g c = λ tells some _. c.todo-status.ensu
 -- a comparison
 
 pub returns-in-Ok-Verify-clause-others : goal.returns-in-Ok-Verify-clause-others
-returns-in-Ok-Verify-clause-others g c = others_stay c.args.crew.items c.verify-status.new.runner
+returns-in-Ok-Verify-clause-others g c =
+    let wanted = rw c.in-Ok-Verify.is at c.order_of.ensures in
+    let is = rw c.in-Ok-Verify.field-0-is at wanted in
+    let crew = c.args.crew.items in
+    let now = slice_set crew 0 c.verify-status.new.runner in
+    subst (λ (w : Wanted). drop (used w (length crew)) now ≡ drop (used w (length crew)) crew) (sym is) (others_stay crew c.verify-status.new.runner)
 
 pub returns-in-Ok-Verify-clause-plain_cause : goal.returns-in-Ok-Verify-clause-plain_cause
 returns-in-Ok-Verify-clause-plain_cause g c =
@@ -118,8 +164,8 @@ returns-in-Ok-Verify-clause-plain_cause g c =
     let before = counts g.S.Site.faults g.R.Runner.faults g.K.Sink.faults c.args.site c.args.crew.items c.args.out.now in
     let now = counts g.S.Site.faults g.R.Runner.faults g.K.Sink.faults c.verify-status.new.site crew c.verify-status.new.out in
     subst (λ (w : Wanted). HasPlainCause w before now c.verify-status.result) (sym is)
-    (crew_compared g.R.Runner.faults c.args.crew.items c.index_mut-in-Ok-Verify.result.now c.verify-status.new.runner (g.S.Site.faults c.args.site) (g.S.Site.faults c.verify-status.new.site) (g.K.Sink.faults c.args.out.now)
-    (g.K.Sink.faults c.verify-status.new.out) c.verify-status.result c.requires.crew.0 c.index_mut-in-Ok-Verify.ensures.value c.verify-status.ensures.counted_cause)
+    (crew_compared g.R.Runner.faults c.args.crew.items c.index_mut.result.now c.verify-status.new.runner (g.S.Site.faults c.args.site) (g.S.Site.faults c.verify-status.new.site) (g.K.Sink.faults c.args.out.now)
+    (g.K.Sink.faults c.verify-status.new.out) c.verify-status.result c.requires.crew.0 c.index_mut.ensures.value c.verify-status.ensures.counted_cause)
 
 pub returns-in-Ok-Verify-clause-compared_ran : goal.returns-in-Ok-Verify-clause-compared_ran
 returns-in-Ok-Verify-clause-compared_ran g c = λ tells means shows.
@@ -129,24 +175,29 @@ returns-in-Ok-Verify-clause-compared_ran g c = λ tells means shows.
     let crew = slice_set c.args.crew.items 0 c.verify-status.new.runner in
     let compares = CrewCompares g.R.Runner.next world (map g.R.Runner.ran c.args.crew.items) (map g.R.Runner.ran crew) in
     subst (λ (w : Wanted). ForVerify w c.verify-status.result compares) (sym is)
-    (crew_compares g.R.Runner.ran c.args.crew.items c.index_mut-in-Ok-Verify.result.now c.verify-status.new.runner c.requires.crew.0 c.index_mut-in-Ok-Verify.ensures.value g.R.Runner.next world
+    (crew_compares g.R.Runner.ran c.args.crew.items c.index_mut.result.now c.verify-status.new.runner c.requires.crew.0 c.index_mut.ensures.value g.R.Runner.next world
     c.verify-status.result (c.verify-status.ensures.ran tells means shows))
 
 pub returns-in-Ok-Verify-clause-compares : goal.returns-in-Ok-Verify-clause-compares
 returns-in-Ok-Verify-clause-compares g c = λ tells means _ can fine.
     compares_so g.R.Runner.next (g.S.Site.world c.args.site) _ _ c.verify-status.result (c.verify-status.ensures.compared tells means)
-    (crew_compared g.R.Runner.faults c.args.crew.items c.index_mut-in-Ok-Verify.result.now c.verify-status.new.runner (g.S.Site.faults c.args.site) (g.S.Site.faults c.verify-status.new.site) (g.K.Sink.faults c.args.out.now)
-    (g.K.Sink.faults c.verify-status.new.out) c.verify-status.result c.requires.crew.0 c.index_mut-in-Ok-Verify.ensures.value c.verify-status.ensures.counted_cause) can fine
+    (crew_compared g.R.Runner.faults c.args.crew.items c.index_mut.result.now c.verify-status.new.runner (g.S.Site.faults c.args.site) (g.S.Site.faults c.verify-status.new.site) (g.K.Sink.faults c.args.out.now)
+    (g.K.Sink.faults c.verify-status.new.out) c.verify-status.result c.requires.crew.0 c.index_mut.ensures.value c.verify-status.ensures.counted_cause) can fine
 
 -- no memory to read the words: nothing was done
 
+pub returns-clause-ran : goal.returns-clause-ran
+returns-clause-ran g c = λ _.
+    let lists = map g.R.Runner.ran (take (used (order c.args.words.now) (length c.args.crew.items)) c.args.crew.items) in
+    memory_for_update (order c.args.words.now) (CrewRuns c.new-in-Err-Memory.result lists lists) (no_runs lists c.new-in-Err-Memory.result c.new-in-Err-Memory.ensures)
+
 pub returns-clause-printed : goal.returns-clause-printed
 returns-clause-printed g c = λ _.
-    memory_prints g.S.Site.tells g.R.Runner.tells (IsTrue g.S.Site.tells × IsKeptBySome g.S.Site c.args.site) (SaysWhyOf g.S.Site c.args.site) (says_none g.S.Site c.args.site) (order c.args.words.now) g.R.Runner.next (g.S.Site.world c.args.site) c.new-in-Err-Memory.result (g.K.Sink.faults c.args.out.now) (g.K.Sink.held c.args.out.now)
+    memory_prints (used (order c.args.words.now) (length c.args.crew.items)) g.S.Site.tells g.R.Runner.tells (IsTrue g.S.Site.tells × IsKeptBySome g.S.Site c.args.site) (SaysWhyOf g.S.Site c.args.site) (says_none g.S.Site c.args.site) (order c.args.words.now) g.R.Runner.next (g.S.Site.world c.args.site) c.new-in-Err-Memory.result (g.K.Sink.faults c.args.out.now) (g.K.Sink.held c.args.out.now)
     c.new-in-Err-Memory.ensures
 
 pub returns-clause-logged : goal.returns-clause-logged
-returns-clause-logged g c = memory_logs (order c.args.words.now) 1 (goes_on (order c.args.words.now)) c.new-in-Err-Memory.result c.new-in-Err-Memory.ensures
+returns-clause-logged g c = memory_logs (order c.args.words.now) (used (order c.args.words.now) (length c.args.crew.items)) (goes_on (order c.args.words.now)) c.new-in-Err-Memory.result c.new-in-Err-Memory.ensures
 
 pub returns-clause-found_out : goal.returns-clause-found_out
 returns-clause-found_out g c = λ _.
@@ -242,8 +293,9 @@ pub returns-clause-only_what_is_needed : goal.returns-clause-only_what_is_needed
 returns-clause-only_what_is_needed g c = λ here.
     let world = g.S.Site.world c.args.site in
     let ran = c.new-in-Err-Memory.result in
-    memory_for_update (order c.args.words.now) (OnlyWhatIsNeeded g.R.Runner.next (goes_on (order c.args.words.now)) 1 world world ran)
-    (untouched_needed g.S.Site g.R.Runner c.args.site here c.flags_are_of_rules.ensures (goes_on (order c.args.words.now)) 1 ran c.new-in-Err-Memory.ensures)
+    let jobs = used (order c.args.words.now) (length c.args.crew.items) in
+    memory_for_update (order c.args.words.now) (OnlyWhatIsNeeded g.R.Runner.next (goes_on (order c.args.words.now)) jobs world world ran)
+    (untouched_needed g.S.Site g.R.Runner c.args.site here c.flags_are_of_rules.ensures (goes_on (order c.args.words.now)) jobs ran c.new-in-Err-Memory.ensures)
 
 pub returns-clause-blamed : goal.returns-clause-blamed
 returns-clause-blamed g c = λ _. memory_for_update (order c.args.words.now) (IsToBlame g.R.Runner.next (g.S.Site.world c.args.site) (g.S.Site.world c.args.site) c.new-in-Err-Memory.result) tt
@@ -266,7 +318,7 @@ returns-clause-sources_stay g c = λ _ some _. let site = c.args.site in sources
 -- what a crash may leave of a store that can't be read
 
 pub returns-in-Ok-Upd-clause-closed : goal.returns-in-Ok-Upd-clause-closed
-returns-in-Ok-Upd-clause-closed g c = λ tells _ closed. c.update-status.ensures.closed tells closed
+returns-in-Ok-Upd-clause-closed g c = λ tells _ closed. c.update_by-status.ensures.closed tells closed
 
 pub returns-in-Ok-Todo-clause-closed : goal.returns-in-Ok-Todo-clause-closed
 returns-in-Ok-Todo-clause-closed g c = λ tells _ closed. c.todo-status.ensures.closed tells closed
@@ -280,8 +332,8 @@ pub returns-in-Ok-Upd-clause-users : goal.returns-in-Ok-Upd-clause-users
 returns-in-Ok-Upd-clause-users g c = λ tells some has.
     let wanted = rw c.in-Ok-Upd.is at c.order_of.ensures in
     let is = rw c.in-Ok-Upd.field-0-is at wanted in
-    let held = IsHeldUp g.S.Site c.args.site c.update-status.result.site c.update-status.result.ran in
-    subst (λ (w : Wanted). ForUpdate w c.update-status.result.status held) (sym is) (c.update-status.ensures.users tells some has)
+    let held = IsHeldUp g.S.Site c.args.site c.update_by-status.result.site c.update_by-status.result.ran in
+    subst (λ (w : Wanted). ForUpdate w c.update_by-status.result.status held) (sym is) (c.update_by-status.ensures.users tells some has)
 
 pub returns-clause-users : goal.returns-clause-users
 returns-clause-users g c = λ _ _ _.

@@ -1,27 +1,43 @@
-use Rattle.std.proofs.Common.{◌≡◌, [], true, false, refl, subst}
+use denote.Param.Send.{sendable}
+use Rattle.std.proofs.Common.{ℕ, ◌≡◌, [], true, false, refl, subst}
+use Rattle.std.proofs.Crossing.{crosses}
 use Rattle.tup_site.specs.World.{World}
 use Rattle.tup_demo.specs.Steady.{world_in}
-use Rattle.tup_top.specs.Printed.{demo_world}
+use Rattle.tup_demo.specs.contracts.steady_calls.SteadySiteSite.TheImpl as steady
+use Rattle.tup_demo.proofs.steady.SteadySite.TheSendSync as of_site
+use Rattle.tup_mini.proofs.mini.Mini.TheSendSync as of_mini
+use Rattle.tup_top.specs.Printed.{PrintsUpdate, SaysWhyOf, demo_world}
 use Rattle.tup_top.specs.Promise.{OpensStore}
 use Rattle.tup_top.specs.Status.{IfCame}
 use Rattle.tup_top.proofs.Causes.{says_less}
-use Rattle.tup_top.proofs.Demo.{demo_cause}
+use Rattle.tup_top.proofs.Demo.{demo_cause, demo_counts}
 use Rattle.tup_top.proofs.Shown.{unshown_cause, unshown_prints}
 use Rattle.tup_top.proofs.update.demo.Goals as goal
+
+-- site and runner may go to threads
+
+pub update-requires-send-S : goal.update-requires-send-S
+update-requires-send-S g c κs lives = search (sendable, crosses, of_site.the_send) depth 20
+
+pub update-requires-send-R : goal.update-requires-send-R
+update-requires-send-R g c κs lives = search (sendable, crosses, of_mini.the_send) depth 20
 
 pub returns-in-Ok : goal.returns-in-Ok
 returns-in-Ok g c =
     let status = c.update.result.status in
     let ran = c.update.result.ran in
     let left = world_in c.update.result.site in
+    let alone = c.in-Ok.ensures.alone in
+    let printed : ℕ → Type 0 = λ jobs. PrintsUpdate jobs true false (SaysWhyOf steady.ghosts c.in-Ok.site false) (world_in c.in-Ok.site) left ran (g.K.Sink.faults c.args.out.now) (g.K.Sink.faults c.update.new.out) (g.K.Sink.held c.args.out.now) (g.K.Sink.held c.update.new.out) status in
     record {
       cause = demo_cause left ran (g.K.Sink.faults c.args.out.now) (g.K.Sink.faults c.update.new.out) status
-          (subst (λ (w : World). IfCame status (OpensStore w left ran)) c.in-Ok.ensures.holds (c.update.ensures.opens_store refl)) c.update.ensures.counted_cause;
+          (subst (λ (w : World). IfCame status (OpensStore w left ran)) c.in-Ok.ensures.holds (c.update.ensures.opens_store refl))
+          (demo_counts c.in-Ok.crew.items c.update.result.crew.items (g.K.Sink.faults c.args.out.now) (g.K.Sink.faults c.update.new.out) status alone c.update.ensures.crew c.update.ensures.counted_cause);
       printed = λ shows. (
         ran,
         left,
-        says_less true false _ (λ chains. chains ≡ []) _ demo_world left ran (g.K.Sink.faults c.args.out.now) (g.K.Sink.faults c.update.new.out) (g.K.Sink.held c.args.out.now) (g.K.Sink.held c.update.new.out) status
-            c.in-Ok.ensures.holds (c.update.ensures.printed shows) (λ chains said. said.0),
+        says_less 1 true false _ (λ log chains. chains ≡ []) _ demo_world left ran (g.K.Sink.faults c.args.out.now) (g.K.Sink.faults c.update.new.out) (g.K.Sink.held c.args.out.now) (g.K.Sink.held c.update.new.out) status
+            c.in-Ok.ensures.holds (subst printed alone (c.update.ensures.printed shows)) (λ log chains said. said.0.1),
       );
     }
 

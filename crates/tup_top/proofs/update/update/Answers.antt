@@ -1,16 +1,16 @@
-use Rattle.std.proofs.Common.{ℕ, List, Option, refl, subst, sym}
+use Rattle.std.proofs.Common.{ℕ, List, Option, length, map, refl, subst, sym}
 use Rattle.std.proofs.lemmas.Option.{none-some}
 use Rattle.tup_promise.specs.Blamed.{IsToBlame}
 use Rattle.tup_promise.specs.Cause.{IsWithin}
 use Rattle.tup_promise.specs.Finished.{IsSettled, ExactlyTheFiles}
 use Rattle.tup_promise.specs.Needed.{OnlyWhatIsNeeded}
-use Rattle.tup_promise.specs.Ran.{RunsThese}
+use Rattle.tup_promise.specs.Ran.{CrewRuns}
 use Rattle.tup_promise.specs.Users.{IsHeldUp}
 use Rattle.tup_top.specs.Lines.{lines}
 use Rattle.tup_top.specs.Printed.{Prints}
 use Rattle.tup_top.specs.Promise.{Logs, OnceDone, OpensStore, Spares}
 use Rattle.tup_top.specs.Status.{status_of}
-use Rattle.tup_top.proofs.Causes.{answered, counted_cause, logs_so, opens_so, untold_runs}
+use Rattle.tup_top.proofs.Causes.{answered, crew_answers, logs_so, opens_so, untold_crew}
 use Rattle.tup_top.proofs.update.update.Goals as goal
 
 pub returns-clause-opens_store : goal.returns-clause-opens_store
@@ -20,36 +20,37 @@ returns-clause-opens_store g c = λ tells.
     let new = g.S.Site.world update.result.site in
     let opens = update.ensures.unopened tells in
     answered (OpensStore old new update.result.log.ran) _ _ _ _ update.result.log update.result.stopped _ _ refl c.tell_all-status.ensures.ends
-    update.ensures.counted_cause (opens_so old new update.result.log.ran update.result.log refl update.result.stopped opens) (update.result.stopped, update.result.log, refl, opens)
+    update.ensures.counted_cause.any (opens_so old new update.result.log.ran update.result.log refl update.result.stopped opens) (update.result.stopped, update.result.log, refl, opens)
 
 pub returns-clause-logged : goal.returns-clause-logged
 returns-clause-logged g c =
     let update = c.update_site-site in
     let ran = update.result.log.ran in
-    answered (Logs 1 c.args.asked.keep_going ran) _ _ _ _ update.result.log update.result.stopped _ _ refl c.tell_all-status.ensures.ends
-    update.ensures.counted_cause (logs_so 1 c.args.asked.keep_going ran update.result.log refl update.result.stopped update.ensures.logged) (update.result.stopped, update.result.log, refl, update.ensures.logged)
+    let jobs = length c.args.crew.items in
+    answered (Logs jobs c.args.asked.keep_going ran) _ _ _ _ update.result.log update.result.stopped _ _ refl c.tell_all-status.ensures.ends
+    update.ensures.counted_cause.any (logs_so jobs c.args.asked.keep_going ran update.result.log refl update.result.stopped update.ensures.logged) (update.result.stopped, update.result.log, refl, update.ensures.logged)
 
 pub returns-clause-spares : goal.returns-clause-spares
 returns-clause-spares g c = λ tells.
     let update = c.update_site-site in
     answered (Spares (g.S.Site.world c.args.site) (g.S.Site.world update.result.site)) _ _ _ _ update.result.log update.result.stopped _ _ refl c.tell_all-status.ensures.ends
-    update.ensures.counted_cause (update.ensures.spares tells) tt
+    update.ensures.counted_cause.any (update.ensures.spares tells) tt
 
 pub returns-clause-ran : goal.returns-clause-ran
 returns-clause-ran g c = λ tells.
     let update = c.update_site-site in
     let ran = update.result.log.ran in
-    let old = g.R.Runner.ran c.args.runner.now in
-    let new = g.R.Runner.ran update.new.runner in
+    let old = map g.R.Runner.ran c.args.crew.items in
+    let new = map g.R.Runner.ran update.result.crew.items in
     let runs = update.ensures.ran tells in
-    answered (RunsThese ran old new) _ _ _ _ update.result.log update.result.stopped _ _ refl c.tell_all-status.ensures.ends
-    update.ensures.counted_cause runs (untold_runs ran old new update.result.stopped runs)
+    answered (CrewRuns ran old new) _ _ _ _ update.result.log update.result.stopped _ _ refl c.tell_all-status.ensures.ends
+    update.ensures.counted_cause.any runs (untold_crew ran old new update.result.stopped runs)
 
 pub returns-clause-counted_cause : goal.returns-clause-counted_cause
 returns-clause-counted_cause g c =
     let update = c.update_site-site in
-    counted_cause (g.S.Site.faults c.args.site) (g.S.Site.faults update.result.site) (g.R.Runner.faults c.args.runner.now) (g.R.Runner.faults update.new.runner) (g.K.Sink.faults c.args.out.now) (g.K.Sink.faults c.tell_all-status.new.out)
-    update.result.log update.result.stopped _ _ refl c.tell_all-status.ensures.ends c.tell_all-status.ensures.counted update.ensures.counted_cause update.ensures.run_cause
+    crew_answers g.R.Runner.faults c.args.crew.items update.result.crew.items (g.S.Site.faults c.args.site) (g.S.Site.faults update.result.site) (g.K.Sink.faults c.args.out.now) (g.K.Sink.faults c.tell_all-status.new.out)
+    update.result.log update.result.stopped _ _ refl c.tell_all-status.ensures.ends c.tell_all-status.ensures.counted update.ensures.crew update.ensures.counted_cause update.ensures.run_cause
 
 pub returns-clause-printed : goal.returns-clause-printed
 returns-clause-printed g c = λ shows.
@@ -77,7 +78,7 @@ returns-clause-exactly_the_files g c = λ kept.
     let update = c.update_site-site in
     let old = g.S.Site.world c.args.site in
     let new = g.S.Site.world update.result.site in
-    answered (ExactlyTheFiles g.R.Runner.next old new) _ _ _ _ update.result.log update.result.stopped _ _ refl c.tell_all-status.ensures.ends update.ensures.counted_cause (update.ensures.exactly_the_files kept) tt
+    answered (ExactlyTheFiles g.R.Runner.next old new) _ _ _ _ update.result.log update.result.stopped _ _ refl c.tell_all-status.ensures.ends update.ensures.counted_cause.any (update.ensures.exactly_the_files kept) tt
 
 pub returns-clause-only_what_is_needed : goal.returns-clause-only_what_is_needed
 returns-clause-only_what_is_needed g c = λ kept.
@@ -86,19 +87,19 @@ returns-clause-only_what_is_needed g c = λ kept.
     let new = g.S.Site.world update.result.site in
     let needed = update.ensures.only_what_is_needed kept in
     let runs = needed.runs in
-    answered (OnlyWhatIsNeeded g.R.Runner.next c.args.asked.keep_going 1 old new update.result.log.ran) _ _ _ _ update.result.log update.result.stopped _ _ refl c.tell_all-status.ensures.ends update.ensures.counted_cause
+    answered (OnlyWhatIsNeeded g.R.Runner.next c.args.asked.keep_going (length c.args.crew.items) old new update.result.log.ran) _ _ _ _ update.result.log update.result.stopped _ _ refl c.tell_all-status.ensures.ends update.ensures.counted_cause.any
     needed (record { runs = record { once = runs.once; due = runs.due; in_order = runs.in_order; all = tt }; flagged = needed.flagged })
 
 pub returns-clause-blamed : goal.returns-clause-blamed
 returns-clause-blamed g c = λ kept.
     let update = c.update_site-site in
-    answered (IsToBlame g.R.Runner.next (g.S.Site.world c.args.site) (g.S.Site.world update.result.site) update.result.log.ran) _ _ _ _ update.result.log update.result.stopped _ _ refl c.tell_all-status.ensures.ends update.ensures.counted_cause
+    answered (IsToBlame g.R.Runner.next (g.S.Site.world c.args.site) (g.S.Site.world update.result.site) update.result.log.ran) _ _ _ _ update.result.log update.result.stopped _ _ refl c.tell_all-status.ensures.ends update.ensures.counted_cause.any
     (update.ensures.blamed kept) tt
 
 pub returns-clause-settled : goal.returns-clause-settled
 returns-clause-settled g c = λ kept.
     let update = c.update_site-site in
-    answered (OnceDone (IsSettled g.S.Site update.result.site)) _ _ _ _ update.result.log update.result.stopped _ _ refl c.tell_all-status.ensures.ends update.ensures.counted_cause
+    answered (OnceDone (IsSettled g.S.Site update.result.site)) _ _ _ _ update.result.log update.result.stopped _ _ refl c.tell_all-status.ensures.ends update.ensures.counted_cause.any
     (update.ensures.settled kept) (λ done. cc done)
 
 pub returns-clause-sources_and_crashes : goal.returns-clause-sources_and_crashes
@@ -121,10 +122,10 @@ returns-clause-users g c = λ tells some has.
     let update = c.update_site-site in
     let held = update.ensures.users tells some has in
     answered (IsHeldUp g.S.Site c.args.site update.result.site update.result.log.ran) _ _ _ _ update.result.log update.result.stopped _ _ refl c.tell_all-status.ensures.ends
-    update.ensures.counted_cause held (record { stops = λ none. none-some _ (sym none); none = held.none; files = held.files; crash = held.crash })
+    update.ensures.counted_cause.any held (record { stops = λ none. none-some _ (sym none); none = held.none; files = held.files; crash = held.crash })
 
 pub returns-clause-limits : goal.returns-clause-limits
 returns-clause-limits g c = λ tells.
     let update = c.update_site-site in
     answered (IsWithin (g.S.Site.world c.args.site)) _ _ _ _ update.result.log update.result.stopped _ _ refl c.tell_all-status.ensures.ends
-    update.ensures.counted_cause (update.ensures.limits tells) tt
+    update.ensures.counted_cause.any (update.ensures.limits tells) tt
