@@ -145,7 +145,7 @@ begin_again() {
 stop() {
     rm -rf "$work/now" && cp -a "$work/project" "$work/now" && cd "$work/now" || exit 1
     what="$1, $2 number $3, $4"
-    strace -o /dev/null -e trace="$2" -e inject="$2:$4:when=$3" "$tup" "$order" > "$work/told" 2> "$work/said"
+    strace -o /dev/null -e trace="$2" -e inject="$2:$4:when=$3" "$tup" $words > "$work/told" 2> "$work/said"
     exit=$?
     all=$((all + 1))
     case $4 in error*) what_was_done=failed ;; *) what_was_done=killed ;; esac
@@ -243,7 +243,7 @@ not_durable() {
 # Kills the update of a project before one call. Words: the call, its number, the folder in which.
 killed_at() {
     rm -rf "${work:?}/$3" && cp -a "$work/project" "$work/$3" && cd "$work/$3" || exit 1
-    strace -o /dev/null -e trace="$1" -e inject="$1:error=EIO:signal=KILL:when=$2" "$tup" "$order" > /dev/null 2>&1
+    strace -o /dev/null -e trace="$1" -e inject="$1:error=EIO:signal=KILL:when=$2" "$tup" $words > /dev/null 2>&1
     [ $? = 137 ] || wrong "it wasn't killed at $1 number $2"
 }
 
@@ -338,6 +338,9 @@ try() {
         listing) order=todo stores=$(($(commits_of "$1") * 2)) && "$tup" init > /dev/null ;;
         *) order=upd stores=$(($(commits_of "$1") * 2)) && "$tup" init > /dev/null ;;
     esac
+    # One command after another: else the calls of the threads are counted apart.
+    words=$order
+    [ $order != upd ] || words='upd -j 1'
     "$1"
     wanted_sources=$(sources)
     files_before=$(files)
@@ -345,7 +348,7 @@ try() {
     cd "$work/clean" && "$tup" init > /dev/null && "$tup" > /dev/null || echo "the clean build of $1 isn't done"
     wanted_files=$(files)
     rm -rf "$work/now" && cp -a "$work/project" "$work/now" && cd "$work/now" || exit 1
-    strace -y -o "$work/trace" -e trace="$calls" "$tup" "$order" > /dev/null
+    strace -y -o "$work/trace" -e trace="$calls" "$tup" $words > /dev/null
     awk '{ name = $0; sub(/\(.*/, "", name); count[name]++ } /"\.["\/]/ { begun = 1 } begun && name ~ /^[a-z]/ && name !~ /^mmap/ { print name, count[name] }' "$work/trace" > "$work/list"
     what=$1
     [ -s "$work/list" ] || wrong "no call of the update was found"
@@ -378,14 +381,63 @@ behind_a_bad_rule() {
     "$tup" init > /dev/null
     printf 'head\n' > sub/head
     printf '%s\n' ': head |> cp head top |> top' ': head |> fail 3 |> page' > sub/Tupfile
-    strace -y -o "$work/trace" -e trace="$calls" "$tup" > /dev/null
+    strace -y -o "$work/trace" -e trace="$calls" "$tup" -j 1 > /dev/null
     exit=$?
     [ $exit = 1 ] || wrong "exit $exit, not 1"
     late=$(unsynced 8)
     [ -z "$late" ] || wrong "$late"
 }
 
+# Several runners: an update is killed, or a call of it fails, at one call of any of its threads. The calls are counted by thread, and
+# which thread comes where differs from run to run: so what is left may be of any moment. Of each kind of call those are taken that
+# come at and behind the first that one runner makes in the project.
+by_several_runners() {
+    rm -rf "$work/project" "$work/clean" && mkdir "$work/project" "$work/clean" && cd "$work/project" || exit 1
+    what="several runners"
+    "$tup" init > /dev/null
+    printf 'head\n' > head
+    awk 'BEGIN { for (i = 1; i <= 8; i++) { print ": head |> cp head top" i " |> top" i; print ": top" i " |> cp top" i " page" i " |> page" i } }' > Tupfile
+    wanted_sources=$(sources_of_several)
+    cp head Tupfile "$work/clean" && cd "$work/clean" && "$tup" init > /dev/null || exit 1
+    strace -o "$work/trace" -e trace="$calls" "$tup" upd -j 1 > /dev/null || echo "the clean build of several runners isn't done"
+    wanted_files=$(files)
+    awk '{ name = $0; sub(/\(.*/, "", name); count[name]++ } /"\.["\/]/ { begun = 1 }
+        begun && name ~ /^[a-z]/ && name !~ /^mmap/ && !(name in first) { print name, first[name] = count[name] }' "$work/trace" > "$work/list"
+    [ -s "$work/list" ] || wrong "no call of the update was found"
+    before=$all
+    while read -r call first; do
+        for more in 0 1 2 3 5 8 13 21; do
+            for fault in signal=KILL error=EIO; do stop_several "$call" $((first + more)) "$fault"; done
+        done
+    done < "$work/list"
+    printf 'several runners: %s updates killed, or failed at a call\n' $((all - before))
+}
+
+# Stops an update by several runners at a call of this number, if a thread makes so many, and looks at what is left.
+stop_several() {
+    rm -rf "$work/now" && cp -a "$work/project" "$work/now" && cd "$work/now" || exit 1
+    jobs=$((all % 15 + 2))
+    what="several runners, -j $jobs, $1 number $2, $3"
+    all=$((all + 1))
+    timeout 60 strace -f -o /dev/null -e trace="$1" -e inject="$1:$3:when=$2" "$tup" upd -j $jobs > "$work/told" 2> "$work/said"
+    exit=$?
+    case "$3 $exit" in
+        'signal=KILL 137' | 'signal=KILL 0' | 'error=EIO 0' | 'error=EIO 7' | 'error=EIO 9') ;;
+        *) wrong "exit $exit: $(tail -1 "$work/told")" ;;
+    esac
+    [ "$(sources_of_several)" = "$wanted_sources" ] || wrong "a source is lost"
+    next=$("$tup" 2>&1)
+    case "$? $next" in
+        '0 '*'done: '*) ;;
+        *) wrong "the next update: $next" ;;
+    esac
+    [ "$(files)" = "$wanted_files" ] || wrong "the next update's files aren't those of a clean build"
+}
+
+sources_of_several() { cat head Tupfile; }
+
 behind_a_bad_rule
+[ $# -gt 0 ] || by_several_runners
 for project in ${*:-beginning comparison listing three_rules after_changes fewer_paths after_a_kill folders_below}; do try "$project"; done
 
 if [ "$failures" -gt 0 ]; then

@@ -39,6 +39,11 @@ same() {
 row() {
     name=$1 status=$2 lines=$3
     shift 3
+    # One command after another: else the lines of rules that don't need each other come in any order.
+    case "$status ${1-upd}" in
+        '2 '* | *' --help' | *' --version') ;;
+        *' upd' | *' -'*) set -- "$@" -j 1 ;;
+    esac
     found=$("$tup" "$@" 2> "$work/said"; printf 'exit %s' "$?")
     same "$name" "$(printf '%s' "$found" | tr '\n' ';')" "${lines}exit $status"
     case "$status $lines" in
@@ -100,10 +105,39 @@ row "an unknown option" 2 '' upd
 said '.tup/options: unknown word --fast'
 row "an unknown option, compared" 2 '' verify
 row "an unknown option, without an order" 2 ''
-row "an unknown option, and one asks for the version" 0 'tup 0.4;' --version
+row "an unknown option, and one asks for the version" 0 'tup 0.5;' --version
 printf '\377' > .tup/options
 row "options that are no text" 2 '' upd
 said ".tup/options: unknown word that isn't UTF-8"
+# How many commands are run at a time.
+for words in '-j 17' '-j 0' '-j 04' '-j' '-j -k' '-j x'; do
+    echo "$words" > .tup/options
+    row "the options $words" 2 '' upd
+    said '.tup/options: no number from 1 to 16 behind -j'
+done
+for word in -j17 -j0 -j04 -jx -j=4; do
+    echo "$word" > .tup/options
+    row "the option $word" 2 '' upd
+    said ".tup/options: unknown word $word"
+done
+for words in '-j 2 -j 2' '-j2 -j'; do
+    echo "$words" > .tup/options
+    row "the options $words" 2 '' upd
+    said '.tup/options: a second -j'
+done
+echo '-j 3 -j3' > .tup/options
+row "the number twice" 2 '' upd
+said '.tup/options: a second -j3'
+for words in '-j 1' -j16 '-k -j 9' "$(printf '%s\n' -j 4)"; do
+    echo "$words" > .tup/options
+    row "the options $words" 0 "$nothing" upd
+done
+row "a word that isn't a number from 1 to 16" 2 'fault: usage, word 3;' upd -j 0
+row "another" 2 'fault: usage, word 2;' upd -j17
+row "no word where one has to be" 2 'fault: usage, word 3;' upd -j
+row "the number twice in a call" 2 'fault: usage, word 3;' -j 2 -j 2
+row "a list of what is to be done takes none" 2 'fault: usage, word 2;' todo -j 2
+row "a number for a project that has begun" 3 'fault: already a tup project;' init -j 2
 rm .tup/options && mkdir .tup/options
 row "a folder in the place of the options" 7 'fault: the file tree or the store failed;' upd
 said 'read .tup/options: Is a directory (os error 21)'

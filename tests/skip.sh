@@ -36,6 +36,11 @@ gone() { same "$1" "$(ls "$2" 2>/dev/null)" ""; }
 row() {
     name=$1 status=$2 lines=$3
     shift 3
+    # One command after another: else the lines of rules that don't need each other come in any order.
+    case "$status ${1-upd}" in
+        '2 '* | *' --help' | *' --version') ;;
+        *' upd' | *' -'*) set -- "$@" -j 1 ;;
+    esac
     found=$("$tup" "$@" 2> "$work/said"; printf 'exit %s' "$?")
     same "$name" "$(printf '%s' "$found" | tr '\n' ';')" "${lines}exit $status"
     same "$name, standard error" "$(cat "$work/said")" ""
@@ -342,9 +347,9 @@ done_row "its rule has gone since" 'remove b;' 'done: 0 read, 0 run, 1 removed'
 # what is open.
 killed() {
     rm -rf "$work/traced" && cp -a . "$work/traced"
-    (cd "$work/traced" && strace -y -o "$work/trace" -e trace="$2" "$tup" upd > /dev/null)
+    (cd "$work/traced" && strace -y -o "$work/trace" -e trace="$2" "$tup" upd -j 1 > /dev/null)
     number=$(awk -v found="$3" '/^[a-z]/ { n++ } $0 ~ found { print n; exit }' "$work/trace")
-    strace -o /dev/null -e trace="$2" -e inject="$2:error=EIO:signal=KILL:when=${number:-1000}" "$tup" upd > /dev/null 2>&1
+    strace -o /dev/null -e trace="$2" -e inject="$2:error=EIO:signal=KILL:when=${number:-1000}" "$tup" upd -j 1 > /dev/null 2>&1
     same "$1: call ${number:-none} is found, and the update killed" "$?" 137
 }
 

@@ -41,6 +41,11 @@ same() {
 row() {
     name=$1 status=$2 lines=$3 said=$4
     shift 4
+    # One command after another: else the lines of rules that don't need each other come in any order.
+    case "$status ${1-upd}" in
+        '2 '* | *' --help' | *' --version') ;;
+        *' upd' | *' -'*) set -- "$@" -j 1 ;;
+    esac
     found=$("$tup" "$@" 2> "$work/said"; printf 'exit %s' "$?")
     same "$name" "$(printf '%s' "$found" | tr '\n' ';')" "${lines}exit $status"
     same "$name, standard error" "$(tr '\n' ';' < "$work/said")" "$said"
@@ -128,7 +133,7 @@ row "it is compared" 0 'same;' '' verify
 row "what would be done" 0 'done: 0 read, 0 run, 0 removed;' '' todo
 row "a word that is none" 2 'fault: usage, word 2;' '' upd now
 row "an option that is none" 2 'fault: usage, word 1;' '' --fast
-row "the version" 0 'tup 0.4;' '' --version
+row "the version" 0 'tup 0.5;' '' --version
 for there in '.hidden/with blank' 'with blank' .tup; do
     cd "$top/$there" || exit 1
     row "in the folder $there" 0 'done: 0 read, 0 run, 0 removed;' ''
@@ -251,7 +256,7 @@ mkdir sub && cd sub || exit 1
 row "a word that is none, for a call below the top" 2 '' 'tup: ../.tup/options: unknown word --fast;'
 row "a word that is none, where files are compared" 2 '' 'tup: ../.tup/options: unknown word --fast;' verify
 row "a word that is none, where one asks what would be done" 2 '' 'tup: ../.tup/options: unknown word --fast;' todo
-row "a word that is none, and one asks for the version" 0 'tup 0.4;' '' --version
+row "a word that is none, and one asks for the version" 0 'tup 0.5;' '' --version
 options "a word without dashes" 'proc tup_sh\n' 2 '' 'tup: .tup/options: unknown word proc tup_sh;'
 options "a word of calls alone" '--explain\n' 2 '' 'tup: .tup/options: unknown word --explain;'
 options "a word that was joined" '--proc=tup_sh\n' 2 '' 'tup: .tup/options: unknown word --proc=tup_sh;'
@@ -348,11 +353,11 @@ row "a command that fails" 1 'read .;bad .: cp a b && fail 3;fault: .: cp a b &&
 project ': a |> cp a c |> b'
 row "a command that writes another file" 1 'read .;bad .: cp a c;fault: .: cp a c: writes c;' '[1] .: cp a c;' --verbose
 two_rules
-same "standard error that is closed" "$("$tup" --verbose 2>&- | tr '\n' ';')" "$ran_both"
+same "standard error that is closed" "$("$tup" --verbose -j 1 2>&- | tr '\n' ';')" "$ran_both"
 two_rules
-same "standard error that takes nothing" "$("$tup" --verbose 2> /dev/full | tr '\n' ';')" "$ran_both"
+same "standard error that takes nothing" "$("$tup" --verbose -j 1 2> /dev/full | tr '\n' ';')" "$ran_both"
 two_rules
-"$tup" --verbose 2> "$work/said" >&-
+"$tup" --verbose -j 1 2> "$work/said" >&-
 same "standard output that is closed" "$?: $(tr '\n' ';' < "$work/said")" '9: [1] .: cp a b;[2] .: cat a a > c;'
 
 # The same on a terminal, which is standard error alone: what it is given, with R for a return, ^ for an escape and ; for a line
@@ -360,7 +365,7 @@ same "standard output that is closed" "$?: $(tr '\n' ';' < "$work/said")" '9: [1
 screen() {
     name=$1 status=$2 wanted=$3
     shift 3
-    found=$(script -qec "'$tup' $* > '$work/lines'" /dev/null < /dev/null; printf 'exit %s' "$?")
+    found=$(script -qec "'$tup' $* -j 1 > '$work/lines'" /dev/null < /dev/null; printf 'exit %s' "$?")
     same "$name" "$(printf '%s' "$found" | tr '\r\033\n' 'R^;')" "${wanted}exit $status"
 }
 lines() { same "$name, its lines" "$(tr '\n' ';' < "$work/lines")" "$1"; }

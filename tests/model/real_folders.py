@@ -31,6 +31,12 @@ def deeds(lines):
     return Counter((b'run' if deed == b'bad' else deed, of) for deed, of in told)
 
 
+def same_lines(found, wanted):
+    """Whether the same is told in any order, up to the last line."""
+    found, wanted = found.splitlines(), wanted.splitlines()
+    return sorted(found) == sorted(wanted) and found[-1:] == wanted[-1:]
+
+
 class Folder:
     """A project in a folder of its own; `problems` are the calls that came out otherwise."""
 
@@ -43,14 +49,14 @@ class Folder:
     def place(self, path):
         return os.path.join(os.fsencode(self.top), *path)
 
-    def start(self, words):
-        """A call, with the options behind its words where it is an update."""
-        options = [] if words in (['init'], ['todo'], ['verify']) else self.options
+    def start(self, words, jobs=1):
+        """A call, with the options behind its words where it is an update, by so many runners."""
+        options = [] if words in (['init'], ['todo'], ['verify']) else [*self.options, '-j', str(jobs)]
         return subprocess.Popen([self.program, *words, *options], cwd=self.top, stdout=subprocess.PIPE,
                                 stderr=subprocess.DEVNULL)
 
-    def run(self, words):
-        process = self.start(words)
+    def run(self, words, jobs=1):
+        process = self.start(words, jobs)
         lines, _ = process.communicate()
         return process.returncode, lines
 
@@ -75,27 +81,31 @@ class Folder:
 
     def call(self, words, status, lines, before, world):
         is_update = words in ([], ['upd']) and status in (0, 1)
-        was_killed = self.kills and is_update and self.kill(words, before)
-        found_status, found_lines = self.run(words)
+        jobs = self.lot.choice([1, self.lot.randint(2, 16)])
+        was_killed = self.kills and is_update and self.kill(words, before, jobs)
+        found_status, found_lines = self.run(words, jobs)
         self.calls += 1
         wrong, listed = [], self.listed
         if world.opening:
-            found_lines, wrong = unexplained(found_lines, world.opening, world.ended)
+            found_lines, wrong = unexplained(found_lines, world.opening, world.ended if jobs == 1 else None)
         if not self.is_as_listed(words, found_status, found_lines):
             wrong.append('todo listed %s' % listed)
         tree = tree_of(self.top)
-        if was_killed and status == 1:
-            # what the killed one made of rules behind the bad one's, or what an edit left at an output, stays
+        # several runners may begin rules behind the bad one's, and another bad rule may end first
+        is_open = status == 1 and (was_killed or jobs > 1 and '-k' not in words)
+        if is_open:
+            # what the killed one, or the runners beside the bad rule's, made of rules behind it, or what an edit left at an output, stays
             owned = before.owned | outputs_of(Project(before.sources()).rules())
             same_tree = {path: tree[path] for path in tree if path not in owned} == before.sources()
         else:
             same_tree = tree == world.tree
-        if wrong or found_status != status or not was_killed and found_lines != lines or not same_tree:
+        is_told = was_killed or is_open or (same_lines if jobs > 1 else bytes.__eq__)(found_lines, lines)
+        if wrong or found_status != status or not is_told or not same_tree:
             paths = sorted(set(tree) | set(world.tree))
             differ = [show(path).decode() for path in paths if tree.get(path) != world.tree.get(path)]
-            self.problems.append((self.top, words, (status, lines), (found_status, found_lines), differ, wrong))
+            self.problems.append((self.top, [*words, '-j', jobs], (status, lines), (found_status, found_lines), differ, wrong))
             return False
-        return not (was_killed and status == 1)
+        return not is_open
 
     def is_as_listed(self, words, status, lines):
         """Whether an update removes and runs what `todo` listed, if nothing was edited between: all of it where it is done."""
@@ -105,9 +115,9 @@ class Folder:
         self.listed = did if words == ['todo'] and status == 0 else None
         return listed is None or did == listed or status and not did - listed
 
-    def kill(self, words, before):
+    def kill(self, words, before, jobs):
         """Ends a call at some moment; no source may be lost by that."""
-        process = self.start(words)
+        process = self.start(words, jobs)
         time.sleep(self.lot.random() * .006)
         process.kill()
         process.communicate()

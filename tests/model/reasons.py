@@ -18,6 +18,10 @@ class Opening:
     def name(self, at):
         return self.shown(at, label(self.rules[at]))
 
+    def named(self, name):
+        """The rules of this name that are to be run."""
+        return [at for at in sorted(self.due) if self.name(at) == name]
+
     def changed(self, at):
         """The paths that hold something else than a rule's last good run read or left there; an output isn't read by its rule."""
         asked, wrote = self.runs.get(at, ([], {}))
@@ -78,16 +82,19 @@ def explained(lines, opening, ended):
     return b'\n'.join(told) + b'\n'
 
 
-def unexplained(lines, opening, ended):
-    """Lines without the reasons; and what is wrong of these: each that is none, and each line that has none behind it."""
-    told, wrong, ended, before = [], [], iter(ended), b''
+def unexplained(lines, opening, ended=None):
+    """Lines without the reasons; and what is wrong of these: each that is none, and each line that has none behind it. The rules
+    that ended come in this order; where that isn't known, each is one that its line names."""
+    told, wrong, before = [], [], b''
+    order = None if ended is None else iter(ended)
     for line in lines.splitlines():
-        awaits = before.startswith((b'run ', b'bad '))
-        at = next(ended, None) if awaits else None
+        awaits, rules = before.startswith((b'run ', b'bad ')), []
+        if awaits:
+            rules = opening.named(before[4:]) if order is None else [at for at in [next(order, None)] if at is not None]
         if not line.startswith(BECAUSE):
             told.append(line)
             wrong += [before] * awaits
-        elif at is None or not opening.holds(at, line[len(BECAUSE):]):
+        elif not any(opening.holds(at, line[len(BECAUSE):]) for at in rules):
             wrong.append(line)
         before = line
     return b'\n'.join(told) + b'\n', wrong

@@ -2,48 +2,63 @@
 use Rattle.std.specs.Prelude.{List, ℕ, Option, Some, None, Result, Ok, Err, if◌then◌else◌, ◌||◌, true, false, is_some, codes, bytes_eq}
 use Rattle.tup_disk.specs.declared.disk.Syncs.{Syncs}
 use Rattle.tup_disk.specs.declared.disk.Syncs.TheVariants.{Done, Skipped}
+use Rattle.tup_top.specs.Order.{jobs_in, joined_jobs}
 use Rattle.tup.specs.declared.options.Voice.{Voice}
 use Rattle.tup.specs.declared.options.Voice.TheVariants.{Quiet, Verbose}
 use Rattle.tup.specs.declared.options.Options.{Options}
 use Rattle.tup.specs.declared.options.Fault.{Fault}
-use Rattle.tup.specs.declared.options.Fault.TheVariants.{Unknown, Twice, Both}
+use Rattle.tup.specs.declared.options.Fault.TheVariants.{Unknown, Twice, NoJobs, Both}
 
 -- the program that a word names
 abbrev pub with_program : List ℕ → Options → Options
-with_program word options = record { program = Some word; syncs = options.syncs; keep_going = options.keep_going; voice = options.voice; awaits_program = false }
+with_program word options = record options { program = Some word; awaits_program = false }
 
 -- the option before a program, which stands once
 abbrev pub with_proc : List ℕ → Options → Result Options Fault
-with_proc word options = if is_some options.program then Err (Twice word)
-    else Ok (record { program = options.program; syncs = options.syncs; keep_going = options.keep_going; voice = options.voice; awaits_program = true })
+with_proc word options = if is_some options.program then Err (Twice word) else Ok (record options { awaits_program = true })
 
 -- the option by which nothing is made durable, which stands once
 abbrev pub with_no_sync : List ℕ → Options → Syncs → Result Options Fault
 with_no_sync word options Skipped = Err (Twice word)
-with_no_sync word options Done = Ok (record { program = options.program; syncs = Skipped; keep_going = options.keep_going; voice = options.voice; awaits_program = false })
+with_no_sync word options Done = Ok (record options { syncs = Skipped })
 
 -- the option by which an update goes on after a bad command, which stands once
 abbrev pub with_keep_going : List ℕ → Options → Result Options Fault
-with_keep_going word options = if options.keep_going then Err (Twice word)
-    else Ok (record { program = options.program; syncs = options.syncs; keep_going = true; voice = options.voice; awaits_program = false })
+with_keep_going word options = if options.keep_going then Err (Twice word) else Ok (record options { keep_going = true })
 
 -- the option that says how much is shown: of the two one stands, once
 abbrev pub with_voice : Voice → List ℕ → Options → Option Voice → Result Options Fault
-with_voice voice word options None = Ok (record { program = options.program; syncs = options.syncs; keep_going = options.keep_going; voice = Some voice; awaits_program = false })
+with_voice voice word options None = Ok (record options { voice = Some voice })
 with_voice Quiet word options (Some Quiet) = Err (Twice word)
 with_voice Verbose word options (Some Verbose) = Err (Twice word)
 with_voice Quiet word options (Some Verbose) = Err Both
 with_voice Verbose word options (Some Quiet) = Err Both
 
+-- the option before how many commands are run at a time, which stands once
+abbrev pub before_jobs : List ℕ → Options → Result Options Fault
+before_jobs word options = if is_some options.jobs then Err (Twice word) else Ok (record options { awaits_jobs = true })
+
+-- the number behind it; what is none from 1 to 16 is refused
+abbrev pub with_jobs : Option ℕ → Options → Result Options Fault
+with_jobs None options = Err NoJobs
+with_jobs (Some number) options = Ok (record options { jobs = Some number; awaits_jobs = false })
+
+-- a word that has the number in itself, of an option that stands once; any other isn't known
+abbrev pub with_joined : List ℕ → Option ℕ → Options → Result Options Fault
+with_joined word None options = Err (Unknown word)
+with_joined word (Some number) options = if is_some options.jobs then Err (Twice word) else Ok (record options { jobs = Some number })
+
 -- options behind one word more; what can't stand there is refused
 abbrev pub added : List ℕ → Options → Result Options Fault
 added word options = if options.awaits_program then Ok (with_program word options)
+    else if options.awaits_jobs then with_jobs (jobs_in word) options
     else if bytes_eq word (codes "--proc") then with_proc word options
     else if bytes_eq word (codes "--no-sync") then with_no_sync word options options.syncs
     else if bytes_eq word (codes "-k") then with_keep_going word options
     else if bytes_eq word (codes "--quiet") then with_voice Quiet word options options.voice
     else if bytes_eq word (codes "--verbose") then with_voice Verbose word options options.voice
-    else Err (Unknown word)
+    else if bytes_eq word (codes "-j") then before_jobs word options
+    else with_joined word (joined_jobs word) options
 
 -- the first of two that says something
 abbrev pub first_said : {T : Type 0} → Option T → Option T → Option T
@@ -57,4 +72,12 @@ skipped_by Done other = other
 
 -- options, and others for what they don't say
 abbrev pub behind : Options → Options → Options
-behind own others = record { program = first_said own.program others.program; syncs = skipped_by own.syncs others.syncs; keep_going = own.keep_going || others.keep_going; voice = first_said own.voice others.voice; awaits_program = false }
+behind own others = record {
+  program = first_said own.program others.program;
+  syncs = skipped_by own.syncs others.syncs;
+  keep_going = own.keep_going || others.keep_going;
+  voice = first_said own.voice others.voice;
+  jobs = first_said own.jobs others.jobs;
+  awaits_program = false;
+  awaits_jobs = false;
+}

@@ -5,6 +5,9 @@
 //! tested, and proved to be safe, but it makes no promise of its own.
 #![tactic(auto)]
 
+ghost use Rattle.tup_top.specs.Crew.{IsCrew};
+
+mod crew;
 mod hint;
 mod option_files;
 mod options;
@@ -14,19 +17,20 @@ mod streams;
 mod top;
 mod words;
 
+use crew::{crew_of, minis, starters};
 use options::{Options, Voice};
 use output::Output;
 use screen::{ErrorScreen, manner};
 use std::alloc::{AllocError, Global};
 use std::process::ExitCode;
 use std::rt::Clock;
+use std::sync::Wait;
+use std::thread::Threads;
 use std::time::{Duration, SystemTime, UNIX_EPOCH};
 use std::{io, process};
 use top::Top;
 use tup_fs::{FsSite, Syncs};
-use tup_mini::Mini;
 use tup_path::Text;
-use tup_proc_runner::{ProcRunner, Stages};
 use tup_progress::{Manner, Progress, Started};
 use tup_runner::Runner;
 use tup_top::{Order, Status, Word, order_of, tup};
@@ -46,6 +50,7 @@ tup makes the files that the Tupfiles of a project ask for. It may be called in 
   tup demo        show an update of a small project in memory
   tup --proc P    update, each command run through the program P; also tup upd --proc P
   tup -k          update, and go on after a bad command with what doesn't need it; also tup upd -k
+  tup -j N        update, at most N commands at a time, 1 to 16; without it 4; also tup upd -j N, -jN
   tup --explain   update, and say behind each rule why it was run; also tup upd --explain
   tup --verbose   update, and print each command before it is run; also tup upd --verbose
   tup --quiet     update, and show nothing while it runs; also tup upd --quiet
@@ -57,30 +62,35 @@ Exit numbers: 0 done, 1 a command's fault, 2 usage, 3 no project here, or one al
 8 the runner failed, 9 the output failed, 11 over a limit, 12 no memory, 13 the files differ from a clean build.
 ";
 
-/// Where the programs that run commands find and leave their files.
-const STAGES: &str = ".tup/stage";
+/// How many commands an update runs at a time where nothing is said.
+const JOBS: u32 = 4;
 
 /// The version, which stands here alone.
-const VERSION: &str = "0.4";
+const VERSION: &str = "0.5";
 
 fn main(rt: HostRuntime) -> ExitCode {
     streams::fill(rt);
     let status = match words(&rt, rt.alloc()) {
-        Ok(words) => answer(rt, rt.alloc(), &words),
+        Ok(words) => answer(rt, &rt, rt.alloc(), &words),
         Err(status) => told(&rt, status),
     };
     ExitCode::from(status)
 }
 
-/// Answers the words, and gives the exit number.
-fn answer(rt: HostRuntime, alloc: Global, words: &[Word]) -> u8 {
+/// Answers the words, and gives the exit number. Crews are started by a handle of their own.
+fn answer<W: Threads + Wait + Sync>(
+    rt: HostRuntime,
+    crews: &W,
+    alloc: Global,
+    words: &[Word],
+) -> u8 {
     match words {
         [word] if word.0.as_str() == "--help" => shown(print!(rt; "{HELP}")),
         [word] if word.0.as_str() == "--version" => shown(println!(rt; "tup {VERSION}")),
         [word, options @ ..] if word.0.as_str() == "init" => {
-            init(rt, alloc, &words[..1], options)
+            init(rt, crews, alloc, &words[..1], options)
         }
-        _ => obey(rt, alloc, words),
+        _ => obey(rt, crews, alloc, words),
     }
 }
 
@@ -94,7 +104,13 @@ struct Call<'a> {
 }
 
 /// Begins a project in the working folder, with these options.
-fn init(rt: HostRuntime, alloc: Global, word: &[Word], options: &[Word]) -> u8 {
+fn init<W: Threads + Wait + Sync>(
+    rt: HostRuntime,
+    crews: &W,
+    alloc: Global,
+    word: &[Word],
+    options: &[Word],
+) -> u8 {
     let Options { syncs, .. } = match option_files::check(rt, alloc, options) {
         Ok(options) => options,
         Err(status) => return status,
@@ -102,14 +118,14 @@ fn init(rt: HostRuntime, alloc: Global, word: &[Word], options: &[Word]) -> u8 {
     let Ok(here) = Top::here(alloc) else {
         return told(&rt, Status::Memory);
     };
-    match run_small(rt, alloc, word, &here, syncs) {
+    match run_small(rt, crews, alloc, word, &here, syncs) {
         Status::Done { .. } => option_files::write(rt, alloc, options),
         status => status.exit(),
     }
 }
 
 /// Carries out an order; only what works on a project looks for it.
-fn obey(rt: HostRuntime, alloc: Global, words: &[Word]) -> u8 {
+fn obey<W: Threads + Wait + Sync>(rt: HostRuntime, crews: &W, alloc: Global, words: &[Word]) -> u8 {
     match order_of(words) {
         Ok(
             Order::Upd {
@@ -117,6 +133,7 @@ fn obey(rt: HostRuntime, alloc: Global, words: &[Word]) -> u8 {
                 keep_going,
                 quiet,
                 verbose,
+                jobs,
                 ..
             },
         ) => {
@@ -125,13 +142,15 @@ fn obey(rt: HostRuntime, alloc: Global, words: &[Word]) -> u8 {
                 syncs: Syncs::Done,
                 keep_going,
                 voice: voice(quiet, verbose),
+                jobs,
                 awaits_program: false,
+                awaits_jobs: false,
             };
-            update(rt, alloc, words, asked)
+            update(rt, crews, alloc, words, asked)
         }
-        Ok(Order::Todo) => todo(rt, alloc, words),
-        Ok(Order::Verify) => verify(rt, alloc, words),
-        _ => without_project(rt, alloc, words),
+        Ok(Order::Todo) => todo(rt, crews, alloc, words),
+        Ok(Order::Verify) => verify(rt, crews, alloc, words),
+        _ => without_project(rt, crews, alloc, words),
     }
 }
 
@@ -145,26 +164,36 @@ fn voice(quiet: bool, verbose: bool) -> Option<Voice> {
 }
 
 /// Carries out an order that works on no project.
-fn without_project(rt: HostRuntime, alloc: Global, words: &[Word]) -> u8 {
+fn without_project<W: Threads + Wait + Sync>(
+    rt: HostRuntime,
+    crews: &W,
+    alloc: Global,
+    words: &[Word],
+) -> u8 {
     let Ok(here) = Top::here(alloc) else {
         return told(&rt, Status::Memory);
     };
-    run_small(rt, alloc, words, &here, Syncs::Done).exit()
+    run_small(rt, crews, alloc, words, &here, Syncs::Done).exit()
 }
 
 /// Lists what an update of the project would do.
-fn todo(rt: HostRuntime, alloc: Global, words: &[Word]) -> u8 {
+fn todo<W: Threads + Wait + Sync>(rt: HostRuntime, crews: &W, alloc: Global, words: &[Word]) -> u8 {
     match project(rt, alloc) {
-        Ok((top, options)) => run_small(rt, alloc, words, &top, options.syncs).exit(),
+        Ok((top, options)) => run_small(rt, crews, alloc, words, &top, options.syncs).exit(),
         Err(status) => status,
     }
 }
 
 /// Compares the files of the project.
-fn verify(rt: HostRuntime, alloc: Global, words: &[Word]) -> u8 {
+fn verify<W: Threads + Wait + Sync>(
+    rt: HostRuntime,
+    crews: &W,
+    alloc: Global,
+    words: &[Word],
+) -> u8 {
     match project(rt, alloc) {
         Ok((top, options)) => {
-            let status = run_small(rt, alloc, words, &top, options.syncs);
+            let status = run_small(rt, crews, alloc, words, &top, options.syncs);
             hint::name_program(rt, alloc, &status, "`tup verify` runs no others");
             status.exit()
         }
@@ -173,16 +202,22 @@ fn verify(rt: HostRuntime, alloc: Global, words: &[Word]) -> u8 {
 }
 
 /// Updates the files of the project. What the call asks for comes before what the options say.
-fn update(rt: HostRuntime, alloc: Global, words: &[Word], asked: Options) -> u8 {
+fn update<W: Threads + Wait + Sync>(
+    rt: HostRuntime,
+    crews: &W,
+    alloc: Global,
+    words: &[Word],
+    asked: Options,
+) -> u8 {
     match project(rt, alloc) {
         Ok((top, options)) => {
             let is_in_words = asked.keep_going;
             let options = asked.before(options);
-            match begin(rt, alloc, &top, options.syncs) {
+            match begin(rt, crews, alloc, &top, options.syncs) {
                 0 if options.keep_going && !is_in_words => {
-                    keep_going(rt, alloc, words, &top, options)
+                    keep_going(rt, crews, alloc, words, &top, options)
                 }
-                0 => update_by(rt, alloc, words, &top, options),
+                0 => update_by(rt, crews, alloc, words, &top, options),
                 status => status,
             }
         }
@@ -198,14 +233,20 @@ fn project(rt: HostRuntime, alloc: Global) -> Result<(Top, Options), u8> {
 }
 
 /// Begins the project where a file asks for it; gives the exit number.
-fn begin(rt: HostRuntime, alloc: Global, top: &Top, syncs: Syncs) -> u8 {
+fn begin<W: Threads + Wait + Sync>(
+    rt: HostRuntime,
+    crews: &W,
+    alloc: Global,
+    top: &Top,
+    syncs: Syncs,
+) -> u8 {
     if !top.is_to_begin() {
         return 0;
     }
     let Ok(words) = init_word(alloc) else {
         return told(&rt, Status::Memory);
     };
-    run_small(rt, alloc, &words, top, syncs).exit()
+    run_small(rt, crews, alloc, &words, top, syncs).exit()
 }
 
 /// The word that begins a project.
@@ -215,9 +256,16 @@ fn init_word(alloc: Global) -> Result<Vec<Word>, AllocError> {
 }
 
 /// Updates the files of a project, and goes on after a bad command, as its options say.
-fn keep_going(rt: HostRuntime, alloc: Global, words: &[Word], top: &Top, options: Options) -> u8 {
+fn keep_going<W: Threads + Wait + Sync>(
+    rt: HostRuntime,
+    crews: &W,
+    alloc: Global,
+    words: &[Word],
+    top: &Top,
+    options: Options,
+) -> u8 {
     match words_with(alloc, words, "-k") {
-        Ok(words) => update_by(rt, alloc, &words, top, options),
+        Ok(words) => update_by(rt, crews, alloc, &words, top, options),
         Err(_) => told(&rt, Status::Memory),
     }
 }
@@ -233,17 +281,25 @@ fn words_with(alloc: Global, words: &[Word], more: &str) -> Result<Vec<Word>, Al
 }
 
 /// Updates the files of a project, by the small commands or through a program.
-fn update_by(rt: HostRuntime, alloc: Global, words: &[Word], top: &Top, options: Options) -> u8 {
+fn update_by<W: Threads + Wait + Sync>(
+    rt: HostRuntime,
+    crews: &W,
+    alloc: Global,
+    words: &[Word],
+    top: &Top,
+    options: Options,
+) -> u8 {
     let call = Call {
         words,
         top,
         syncs: options.syncs,
         manner: manner(rt, options.voice),
     };
+    let jobs = options.jobs.unwrap_or(JOBS);
     match options.program {
-        Some(program) => run_through(rt, alloc, &call, &program),
+        Some(program) => run_through(rt, crews, alloc, &call, &program, jobs),
         None => {
-            let status = run(rt, alloc, &call, Mini::new(alloc)).0;
+            let status = run_by_minis(rt, crews, alloc, &call, jobs);
             hint::name_program(rt, alloc, &status, "`--proc tup_sh` runs shell commands");
             status.exit()
         }
@@ -251,37 +307,85 @@ fn update_by(rt: HostRuntime, alloc: Global, words: &[Word], top: &Top, options:
 }
 
 /// Carries out words by the small commands, and shows none of them.
-fn run_small(rt: HostRuntime, alloc: Global, words: &[Word], top: &Top, syncs: Syncs) -> Status {
+fn run_small<W: Threads + Wait + Sync>(
+    rt: HostRuntime,
+    crews: &W,
+    alloc: Global,
+    words: &[Word],
+    top: &Top,
+    syncs: Syncs,
+) -> Status {
     let call = Call {
         words,
         top,
         syncs,
         manner: Manner::Silent,
     };
-    run(rt, alloc, &call, Mini::new(alloc)).0
+    run_by_minis(rt, crews, alloc, &call, 1)
 }
 
-/// Has a crew of this one runner carry out a call; gives how it ended, and the runner back.
-fn run<R: Runner>(rt: HostRuntime, alloc: Global, call: &Call, runner: R) -> (Status, Option<R>) {
+/// Has a crew of so many that run the small commands carry out a call.
+fn run_by_minis<W: Threads + Wait + Sync>(
+    rt: HostRuntime,
+    crews: &W,
+    alloc: Global,
+    call: &Call,
+    jobs: u32,
+) -> Status {
+    match minis(alloc, jobs) {
+        Ok(runners) => run(rt, crews, alloc, call, runners).0,
+        Err(_) => no_memory(rt),
+    }
+}
+
+/// Has a crew of these runners carry out a call; gives how it ended, and the runners back.
+fn run<W: Threads + Wait + Sync, R: Runner + Send>(
+    rt: HostRuntime,
+    crews: &W,
+    alloc: Global,
+    call: &Call,
+    runners: Vec<R>,
+) -> (Status, Vec<R>)
+    requires { IsCrew runners.items }
+{
     let Ok(site) = FsSite::new(rt, alloc, call.top.root.as_str(), call.syncs) else {
-        return (no_memory(rt), None);
+        return (no_memory(rt), runners);
+    };
+    let Ok(back) = Vec::with_capacity(alloc, runners.len()) else {
+        return (no_memory(rt), runners);
     };
     let started = Started::new();
-    let mut crew = Vec::new(alloc);
-    let shown = Progress::new(runner, ErrorScreen::new(rt), call.manner, &started);
-    let Ok(()) = crew.push(shown) else {
-        return (no_memory(rt), None);
-    };
+    match crew_of(rt, alloc, call.manner, &started, runners) {
+        Ok(crew) => run_crew(rt, crews, alloc, call, site, crew, back),
+        Err(_) => (no_memory(rt), back),
+    }
+}
+
+/// Has a crew carry out a call over a site; gives how it ended, and the runners back in what has room for them.
+fn run_crew<W: Threads + Wait + Sync, R: Runner + Send>(
+    rt: HostRuntime,
+    crews: &W,
+    alloc: Global,
+    call: &Call,
+    site: FsSite<HostRuntime>,
+    crew: Vec<Progress<R, ErrorScreen>>,
+    mut back: Vec<R>,
+) -> (Status, Vec<R>)
+    requires { IsCrew crew.items }
+{
     let mut output = Output::new(&rt, call.manner == Manner::Over);
-    let mut ran = tup(alloc, call.words, site, crew, &mut output);
+    let ran = tup(crews, alloc, call.words, site, crew, &mut output);
     if let Some(failure) = ran.site.last() {
         // Words that can't be printed change nothing: the exit number tells as much.
         drop(eprintln!(rt; "tup: {failure}"));
     }
     hint::begin(rt, call.top, &ran.status);
     hint::begin_anew(rt, alloc, call.top, &ran.status);
-    let progress = ran.crew.pop();
-    (ran.status, progress.map(Progress::into_runner))
+    for progress in ran.crew {
+        // Without room it is dropped.
+        drop(back.push(progress.into_runner()));
+    }
+    (ran.status, back)
 }
 
 /// Prints that there was no memory.
@@ -290,49 +394,26 @@ fn no_memory(rt: HostRuntime) -> Status {
     Status::Memory
 }
 
-/// Has the runner that starts this program for each command carry out a call; gives the exit number.
-fn run_through(rt: HostRuntime, alloc: Global, call: &Call, program: &Text) -> u8 {
-    let Ok(runner) = starter(rt, alloc, call.top, program) else {
+/// Has a crew of so many that start this program for each command carry out a call; gives the exit number.
+fn run_through<W: Threads + Wait + Sync>(
+    rt: HostRuntime,
+    crews: &W,
+    alloc: Global,
+    call: &Call,
+    program: &Text,
+    jobs: u32,
+) -> u8 {
+    let Ok(runners) = starters(rt, alloc, call.top, program, jobs) else {
         return told(&rt, Status::Memory);
     };
-    let (status, runner) = run(rt, alloc, call, runner);
-    if let Some(fault) = runner.and_then(|runner| runner.last()) {
-        // Words that can't be printed change nothing: the exit number tells as much.
-        drop(eprintln!(rt; "tup: {program}: {fault}"));
+    let (status, runners) = run(rt, crews, alloc, call, runners);
+    for runner in &runners {
+        if let Some(fault) = runner.last() {
+            // Words that can't be printed change nothing: the exit number tells as much.
+            drop(eprintln!(rt; "tup: {program}: {fault}"));
+        }
     }
     status.exit()
-}
-
-/// The runner that starts a program.
-fn starter(
-    rt: HostRuntime,
-    alloc: Global,
-    top: &Top,
-    program: &Text,
-) -> Result<ProcRunner<HostRuntime>, AllocError> {
-    let root = Text::from_str(alloc, top.root.as_str())?;
-    let stages = Stages {
-        above: Text::from_string(top.place(alloc, STAGES)?),
-        update: update_name(rt, alloc)?,
-        seat: 0,
-    };
-    Ok(ProcRunner::new(rt, alloc, root, program.clone()?, stages))
-}
-
-/// A name that no other update of the project has: the time at which it begins, and the number of its process.
-fn update_name(rt: HostRuntime, alloc: Global) -> Result<Text, AllocError> {
-    let time = since_1970(&rt);
-    let (seconds, nanos) = (time.as_secs(), time.subsec_nanos());
-    let id = process::id(rt.process());
-    Ok(Text::from_string(format!(in alloc; "{seconds}.{nanos}.{id}")?))
-}
-
-/// The time since 1970, none where the clock doesn't tell.
-fn since_1970(clock: &impl Clock) -> Duration {
-    match SystemTime::now(clock) {
-        Ok(now) => now.duration_since(UNIX_EPOCH).unwrap_or(Duration::ZERO),
-        Err(_) => Duration::ZERO,
-    }
 }
 
 /// The exit number of a text that was to be printed.

@@ -1,12 +1,13 @@
 //! The options of a project: words that hold for each update in it.
 ghost use Rattle.std.specs.Prelude.{◌≡◌, ◌⊎◌, Ok, Err, IfOk, IfErr, false};
-ghost use Rattle.tup.specs.Options.{added, behind, with_voice};
+ghost use Rattle.tup.specs.Options.{added, behind, with_jobs, with_joined, with_voice};
 ghost use Rattle.tup.specs.declared.options.Fault.TheVariants.{Memory};
 
 use std::alloc::{AllocError, AllocFailed, Global};
 use std::fmt;
 use tup_fs::Syncs;
 use tup_path::Text;
+use tup_top::{jobs_in, joined_jobs};
 
 /// How much an update shows while it runs.
 #[derive(Clone, Copy, Debug, PartialEq, Eq)]
@@ -28,8 +29,12 @@ pub(crate) struct Options {
     pub(crate) keep_going: bool,
     /// How much it shows while it runs, if that is said.
     pub(crate) voice: Option<Voice>,
+    /// How many commands it runs at a time, if that is said.
+    pub(crate) jobs: Option<u32>,
     /// Whether a program has to follow.
     pub(crate) awaits_program: bool,
+    /// Whether the number of commands has to follow.
+    pub(crate) awaits_jobs: bool,
 }
 
 /// Why a word can't stand among options where it stands.
@@ -40,6 +45,8 @@ pub(crate) enum Fault {
     Twice(Text),
     /// The words end where a program has to follow.
     NoProgram,
+    /// No number of commands follows where one has to.
+    NoJobs,
     /// An update can't be quiet and verbose.
     Both,
     Memory,
@@ -51,6 +58,7 @@ impl fmt::Display for Fault {
             Fault::Unknown(word) => write!(f, "unknown word {word}"),
             Fault::Twice(word) => write!(f, "a second {word}"),
             Fault::NoProgram => f.write_str("no program behind --proc"),
+            Fault::NoJobs => f.write_str("no number from 1 to 16 behind -j"),
             Fault::Both => f.write_str("--quiet and --verbose"),
             Fault::Memory => f.write_str("no memory"),
         }
@@ -87,7 +95,9 @@ impl Options {
             syncs: Syncs::Done,
             keep_going: false,
             voice: None,
+            jobs: None,
             awaits_program: false,
+            awaits_jobs: false,
         }
     }
 
@@ -126,17 +136,50 @@ impl Options {
             self.awaits_program = false;
             return Ok(());
         }
+        if self.awaits_jobs {
+            return self.take_jobs(jobs_in(word.as_bytes()));
+        }
         match word {
             "--proc" if self.program.is_none() => self.awaits_program = true,
             "--no-sync" if self.syncs == Syncs::Done => self.syncs = Syncs::Skipped,
             "-k" if !self.keep_going => self.keep_going = true,
             "--quiet" => return self.speak(alloc, word, Voice::Quiet),
             "--verbose" => return self.speak(alloc, word, Voice::Verbose),
-            "--proc" | "--no-sync" | "-k" => {
+            "-j" if self.jobs.is_none() => self.awaits_jobs = true,
+            "--proc" | "--no-sync" | "-k" | "-j" => {
                 return Err(Fault::Twice(Text::from_str(alloc, word)?));
             }
-            _ => return Err(Fault::Unknown(Text::from_str(alloc, word)?)),
+            _ => return self.add_joined(alloc, word, joined_jobs(word.as_bytes())),
         }
+        Ok(())
+    }
+
+    /// Takes the number of commands that had to follow.
+    fn take_jobs(&mut self, jobs: Option<u32>) -> Result<(), Fault>
+        ensures taken { IfOk result (λ _. with_jobs jobs self.old ≡ Ok self.new) }
+        ensures refused { IfErr result (λ fault. with_jobs jobs self.old ≡ Err fault) }
+    {
+        if jobs.is_none() {
+            return Err(Fault::NoJobs);
+        }
+        self.jobs = jobs;
+        self.awaits_jobs = false;
+        Ok(())
+    }
+
+    /// Reads a word that has the number of commands in itself, if it has one.
+    fn add_joined(&mut self, alloc: Global, word: &str, jobs: Option<u32>) -> Result<(), Fault>
+        ensures added { IfOk result (λ _. with_joined word.now jobs self.old ≡ Ok self.new) }
+        ensures refused { IfErr result (λ fault. (fault ≡ Memory)
+            ⊎ (with_joined word.now jobs self.old ≡ Err fault)) }
+    {
+        if jobs.is_none() {
+            return Err(Fault::Unknown(Text::from_str(alloc, word)?));
+        }
+        if self.jobs.is_some() {
+            return Err(Fault::Twice(Text::from_str(alloc, word)?));
+        }
+        self.jobs = jobs;
         Ok(())
     }
 
@@ -159,12 +202,14 @@ impl Options {
         }
     }
 
-    /// The options, where no program is missing behind the last word.
+    /// The options, where nothing is missing behind the last word.
     pub(crate) fn ended(self) -> Result<Options, Fault>
         ensures { IfOk result (λ options. options ≡ self) }
     {
         if self.awaits_program {
             Err(Fault::NoProgram)
+        } else if self.awaits_jobs {
+            Err(Fault::NoJobs)
         } else {
             Ok(self)
         }
@@ -182,7 +227,9 @@ impl Options {
             },
             keep_going: self.keep_going || others.keep_going,
             voice: self.voice.or(others.voice),
+            jobs: self.jobs.or(others.jobs),
             awaits_program: false,
+            awaits_jobs: false,
         }
     }
 }

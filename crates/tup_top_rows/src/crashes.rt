@@ -1,6 +1,8 @@
 //! A project whose first update is stopped after each of its calls, and crashed there in each way.
 use crate::turns::{carried_out, crash, run, written};
 use std::alloc::Global;
+use std::sync::Wait;
+use std::thread::Threads;
 use tup_history::{Lived, Turn};
 use tup_mini::Mini;
 use tup_path::{Bytes, Items, Path};
@@ -36,12 +38,12 @@ struct Outcome {
 /// next update is done, and leaves each output as a copy of the source. The words of the row are the
 /// Tupfile and the source, each with its content, and the outputs. The answer has how many calls of
 /// the update were stopped, and how many next updates weren't so.
-pub(crate) fn every_crash(alloc: Global, said: &Words) -> Words {
-    let mut before = left(alloc, said, 0, None).store;
+pub(crate) fn every_crash<W: Threads + Wait + Sync>(rt: &W, alloc: Global, said: &Words) -> Words {
+    let mut before = left(rt, alloc, said, 0, None).store;
     let mut wrong: u64 = 0;
     for stop in 0..MAX_CALLS {
-        let Outcome { store, done, .. } = left(alloc, said, stop, None);
-        wrong = wrong.saturating_add(wrong_crashes(alloc, said, stop, &before, &store));
+        let Outcome { store, done, .. } = left(rt, alloc, said, stop, None);
+        wrong = wrong.saturating_add(wrong_crashes(rt, alloc, said, stop, &before, &store));
         if done {
             return Words::all(alloc, &[stop, wrong]);
         }
@@ -52,11 +54,18 @@ pub(crate) fn every_crash(alloc: Global, said: &Words) -> Words {
 
 /// How many of the three crashes after these calls are followed by an update that isn't right. The last
 /// of the calls found one store, and left the other.
-fn wrong_crashes(alloc: Global, said: &Words, stop: u64, before: &[u8], store: &[u8]) -> u64 {
+fn wrong_crashes<W: Threads + Wait + Sync>(
+    rt: &W,
+    alloc: Global,
+    said: &Words,
+    stop: u64,
+    before: &[u8],
+    store: &[u8],
+) -> u64 {
     let mut wrong: u64 = 0;
     for tear in [Tear::Kept, Tear::Lost, Tear::Torn] {
-        let crash = crash_of(alloc, said, stop, tear, before, store);
-        if !goes_on(alloc, said, stop, crash) {
+        let crash = crash_of(rt, alloc, said, stop, tear, before, store);
+        if !goes_on(rt, alloc, said, stop, crash) {
             wrong = wrong.saturating_add(1);
         }
     }
@@ -64,14 +73,21 @@ fn wrong_crashes(alloc: Global, said: &Words, stop: u64, before: &[u8], store: &
 }
 
 /// Whether a crash may come after these calls, and the update behind it is right.
-fn goes_on(alloc: Global, said: &Words, stop: u64, crash: Turn) -> bool {
-    let left = left(alloc, said, stop, Some(crash));
+fn goes_on<W: Threads + Wait + Sync>(
+    rt: &W,
+    alloc: Global,
+    said: &Words,
+    stop: u64,
+    crash: Turn,
+) -> bool {
+    let left = left(rt, alloc, said, stop, Some(crash));
     left.done && left.copied
 }
 
 /// A crash that leaves all, as little as it may, or as torn as it may. What the last call wrote into the
 /// store isn't durable yet, and what the calls before it wrote is: each write is synced by the next call.
-fn crash_of(
+fn crash_of<W: Threads + Wait + Sync>(
+    rt: &W,
     alloc: Global,
     said: &Words,
     stop: u64,
@@ -82,11 +98,11 @@ fn crash_of(
     match tear {
         Tear::Kept => crash(copied(alloc, said, store), Items::new(alloc)),
         Tear::Lost => {
-            let loose = loose(alloc, said, stop, store, false);
+            let loose = loose(rt, alloc, said, stop, store, false);
             crash(copied(alloc, said, before), loose)
         }
         Tear::Torn => {
-            let loose = loose(alloc, said, stop, store, true);
+            let loose = loose(rt, alloc, said, stop, store, true);
             crash(torn_store(alloc, said, before, store), loose)
         }
     }
@@ -115,7 +131,8 @@ fn tear_byte(bytes: &mut [u8], at: usize) {
 }
 
 /// The outputs that a crash may leave with other contents: torn, or gone.
-fn loose(
+fn loose<W: Threads + Wait + Sync>(
+    rt: &W,
     alloc: Global,
     said: &Words,
     stop: u64,
@@ -124,7 +141,7 @@ fn loose(
 ) -> Items<(Path, Option<Bytes>)> {
     let mut loose = Items::new(alloc);
     for path in said.paths_at(alloc, 4).into_vec() {
-        if may_lose(alloc, said, stop, store, &path) {
+        if may_lose(rt, alloc, said, stop, store, &path) {
             said.list(&mut loose, (path, content(alloc, said, is_torn)));
         }
     }
@@ -132,14 +149,21 @@ fn loose(
 }
 
 /// Whether a crash may leave another content of an output.
-fn may_lose(alloc: Global, said: &Words, stop: u64, store: &[u8], path: &Path) -> bool {
+fn may_lose<W: Threads + Wait + Sync>(
+    rt: &W,
+    alloc: Global,
+    said: &Words,
+    stop: u64,
+    store: &[u8],
+    path: &Path,
+) -> bool {
     let mut tree = Items::new(alloc);
     match path.clone() {
         Ok(path) => said.list(&mut tree, (path, content(alloc, said, true))),
         Err(_) => said.fail(RowFault::Memory),
     }
     let db = Bytes::new(said.copy_of(alloc, store));
-    may_leave(alloc, said, stop, crash(db, tree))
+    may_leave(rt, alloc, said, stop, crash(db, tree))
 }
 
 /// What a torn output holds; a lost one is gone.
@@ -152,18 +176,30 @@ fn content(alloc: Global, said: &Words, is_torn: bool) -> Option<Bytes> {
 }
 
 /// Whether a crash after so many calls may leave this.
-fn may_leave(alloc: Global, said: &Words, stop: u64, crash: Turn) -> bool {
-    left(alloc, said, stop, Some(crash)).carried_out
+fn may_leave<W: Threads + Wait + Sync>(
+    rt: &W,
+    alloc: Global,
+    said: &Words,
+    stop: u64,
+    crash: Turn,
+) -> bool {
+    left(rt, alloc, said, stop, Some(crash)).carried_out
 }
 
 /// What becomes of the project if its first update is stopped so, and then crashed and updated again.
-fn left(alloc: Global, said: &Words, stop: u64, crash: Option<Turn>) -> Outcome {
+fn left<W: Threads + Wait + Sync>(
+    rt: &W,
+    alloc: Global,
+    said: &Words,
+    stop: u64,
+    crash: Option<Turn>,
+) -> Outcome {
     let mut turns = turns_to(alloc, said, stop);
     if let Some(crash) = crash {
         said.list(&mut turns, crash);
         said.list(&mut turns, run(alloc, said, "upd", None));
     }
-    match lived(alloc, turns.into_vec()) {
+    match lived(rt, alloc, turns.into_vec()) {
         Some(lived) => left_by(alloc, said, &lived),
         None => nothing(alloc, said),
     }
@@ -180,10 +216,10 @@ fn turns_to(alloc: Global, said: &Words, stop: u64) -> Items<Turn> {
 }
 
 /// Carries out turns over an empty site.
-fn lived(alloc: Global, turns: Vec<Turn>) -> Option<Lived<Mini>> {
+fn lived<W: Threads + Wait + Sync>(rt: &W, alloc: Global, turns: Vec<Turn>) -> Option<Lived<Mini>> {
     let mut out = MemSink::new(alloc, Vec::new(alloc));
     match MemSite::new(alloc, Vec::new(alloc), Vec::new(alloc)) {
-        Ok(site) => carried_out(alloc, site, turns, &mut out),
+        Ok(site) => carried_out(rt, alloc, site, turns, &mut out),
         Err(_) => None,
     }
 }

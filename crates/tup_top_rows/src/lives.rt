@@ -4,43 +4,46 @@ use crate::session::file;
 use crate::turns::{carried_out, crash, edit, run_said, written};
 use std::alloc::Global;
 use std::mem;
+use std::sync::Wait;
+use std::thread::Threads;
 use tup_history::{End, Lived, Turn};
 use tup_mini::Mini;
 use tup_path::{Bytes, Items};
-use tup_rows::{Answers, RowFault, Words, set};
+use tup_rows::{RowFault, Words, set};
 use tup_site::MemSite;
 use tup_tell::MemSink;
 
 /// The turns that were said since the last that were carried out, and the site that these left.
 #[derive(Drop)]
-pub(crate) struct Lives {
+pub(crate) struct Lives<'a, W: Threads + Wait + Sync> {
+    rt: &'a W,
     turns: Items<Turn>,
     /// None while the turns are carried out.
     site: Option<MemSite>,
     printed: Vec<u8>,
 }
 
-impl Answers for Lives {
-    fn answer(&mut self, alloc: Global, call: &str, said: &Words) -> Result<Words, RowFault> {
-        Ok(match self.turn(alloc, call, said) {
-            Some(turn) => self.say(alloc, said, turn),
-            None => self.ask(alloc, call, said),
-        })
-    }
-}
-
-impl Lives {
+impl<'a, W: Threads + Wait + Sync> Lives<'a, W> {
     /// No turns, over a site without files and with an empty store.
-    pub(crate) fn new(alloc: Global) -> Lives {
-        Lives::over(alloc, Vec::new(alloc))
+    pub(crate) fn new(rt: &'a W, alloc: Global) -> Lives<'a, W> {
+        Lives::over(rt, alloc, Vec::new(alloc))
     }
 
     /// No turns, over a site of which the calls of these numbers fail.
-    fn over(alloc: Global, fails: Vec<u64>) -> Lives {
+    fn over(rt: &'a W, alloc: Global, fails: Vec<u64>) -> Lives<'a, W> {
         Lives {
+            rt,
             turns: Items::new(alloc),
             site: MemSite::new(alloc, Vec::new(alloc), fails).ok(),
             printed: Vec::new(alloc),
+        }
+    }
+
+    /// Answers the call of a row.
+    pub(crate) fn answer(&mut self, alloc: Global, call: &str, said: &Words) -> Words {
+        match self.turn(alloc, call, said) {
+            Some(turn) => self.say(alloc, said, turn),
+            None => self.ask(alloc, call, said),
         }
     }
 
@@ -48,7 +51,7 @@ impl Lives {
     fn begin(&mut self, alloc: Global, said: &Words) -> Words {
         match vec![in alloc; said.number_at(0)] {
             Ok(fails) => {
-                set(self, Lives::over(alloc, fails));
+                set(self, Lives::over(self.rt, alloc, fails));
                 Words::done(alloc)
             }
             Err(_) => Words::none(alloc, RowFault::Memory),
@@ -76,7 +79,7 @@ impl Lives {
             "live" => self.live(alloc, said),
             "printed" => Words::word(alloc, &self.printed),
             "file" => self.file(alloc, said),
-            "every_crash" => every_crash(alloc, said),
+            "every_crash" => every_crash(self.rt, alloc, said),
             _ => Words::none(alloc, RowFault::NoSuchCall),
         }
     }
@@ -113,7 +116,7 @@ impl Lives {
     fn live_over(&mut self, alloc: Global, said: &Words, site: MemSite) -> Words {
         let turns = mem::replace(&mut self.turns, Items::new(alloc));
         let mut out = MemSink::new(alloc, Vec::new(alloc));
-        match carried_out(alloc, site, turns.into_vec(), &mut out) {
+        match carried_out(self.rt, alloc, site, turns.into_vec(), &mut out) {
             Some(lived) => self.keep(alloc, said, lived, &out),
             None => Words::none(alloc, RowFault::Memory),
         }

@@ -5,35 +5,120 @@
 mod cost;
 mod crashes;
 mod failing;
+mod found;
+mod length;
 mod lives;
 mod many;
 mod session;
 mod turns;
 
+use found::Found;
 use lives::Lives;
 use session::Session;
 use std::alloc::Global;
-use std::fs::Files;
+use std::fs::{File, Files};
 use std::io;
-use tup_rows::try_file_by;
+use std::io::Read;
+use std::sync::Wait;
+use std::thread::Threads;
+use tup_rows::{Row, RowFault, report};
 
 /// Tries the rows.
 fn main(rt: HostRuntime) -> io::Result<()> {
-    try_rows(&rt, rt.alloc(), "init.rows")?;
-    try_rows(&rt, rt.alloc(), "tup.rows")?;
-    try_rows(&rt, rt.alloc(), "folders.rows")?;
-    try_rows(&rt, rt.alloc(), "skip.rows")?;
-    try_rows(&rt, rt.alloc(), "limits.rows")?;
-    try_rows(&rt, rt.alloc(), "verify.rows")?;
-    try_rows(&rt, rt.alloc(), "todo.rows")?;
-    try_rows(&rt, rt.alloc(), "explain.rows")?;
-    try_file_by(&rt, rt.alloc(), "history.rows", Lives::new(rt.alloc()))
+    try_rows(&rt, &rt, rt.alloc(), "init.rows")?;
+    try_rows(&rt, &rt, rt.alloc(), "tup.rows")?;
+    try_rows(&rt, &rt, rt.alloc(), "folders.rows")?;
+    try_rows(&rt, &rt, rt.alloc(), "skip.rows")?;
+    try_rows(&rt, &rt, rt.alloc(), "compact.rows")?;
+    try_rows(&rt, &rt, rt.alloc(), "limits.rows")?;
+    try_rows(&rt, &rt, rt.alloc(), "verify.rows")?;
+    try_rows(&rt, &rt, rt.alloc(), "todo.rows")?;
+    try_rows(&rt, &rt, rt.alloc(), "explain.rows")?;
+    try_lives(&rt, &rt, rt.alloc(), "history.rows")
 }
 
 /// Tries the rows of a file, from a folder without a project on.
-fn try_rows<R: Files + Print>(rt: &R, alloc: Global, name: &str) -> io::Result<()> {
-    match Session::new(alloc) {
-        Ok(session) => try_file_by(rt, alloc, name, session),
+fn try_rows<R: Files + Print, W: Threads + Wait + Sync>(
+    rt: &R,
+    crews: &W,
+    alloc: Global,
+    name: &str,
+) -> io::Result<()> {
+    let text = read(rt, alloc, name)?;
+    told(rt, alloc, name, &text, answers(crews, alloc, &text))
+}
+
+/// Tries the rows of a file on histories.
+fn try_lives<R: Files + Print, W: Threads + Wait + Sync>(
+    rt: &R,
+    crews: &W,
+    alloc: Global,
+    name: &str,
+) -> io::Result<()> {
+    let text = read(rt, alloc, name)?;
+    told(rt, alloc, name, &text, lived(crews, alloc, &text))
+}
+
+/// The text of a file in the working folder.
+fn read<R: Files>(rt: &R, alloc: Global, name: &str) -> io::Result<String> {
+    let mut text = String::new(alloc);
+    File::open(rt, name)?.read_to_string(&mut text)?;
+    Ok(text)
+}
+
+/// The answers of the rows of a text, from a folder without a project on.
+fn answers<W: Threads + Wait + Sync>(
+    crews: &W,
+    alloc: Global,
+    text: &str,
+) -> Result<Found, RowFault> {
+    let mut session = Session::new(crews, alloc)?;
+    let mut found = Vec::new(alloc);
+    for line in text.lines() {
+        if let Ok(Some(row)) = Row::read(alloc, line) {
+            found.push(session.answer(alloc, row.call.as_str(), &row.arguments))?;
+        }
+    }
+    Ok(Found::new(found))
+}
+
+/// The answers of the rows of a text on histories.
+fn lived<W: Threads + Wait + Sync>(
+    crews: &W,
+    alloc: Global,
+    text: &str,
+) -> Result<Found, RowFault> {
+    let mut lives = Lives::new(crews, alloc);
+    let mut found = Vec::new(alloc);
+    for line in text.lines() {
+        if let Ok(Some(row)) = Row::read(alloc, line) {
+            found.push(lives.answer(alloc, row.call.as_str(), &row.arguments))?;
+        }
+    }
+    Ok(Found::new(found))
+}
+
+/// Compares the rows of a file with their answers, and prints the report.
+fn told<R: Print>(
+    rt: &R,
+    alloc: Global,
+    name: &str,
+    text: &str,
+    found: Result<Found, RowFault>,
+) -> io::Result<()> {
+    match reported(alloc, name, text, found) {
+        Ok(lines) => print!(rt; "{lines}"),
         Err(fault) => println!(rt; "{name}: {fault}"),
     }
+}
+
+/// The lines to print of the rows of a file.
+fn reported(
+    alloc: Global,
+    name: &str,
+    text: &str,
+    found: Result<Found, RowFault>,
+) -> Result<String, RowFault> {
+    let mut found = found?;
+    report(alloc, name, text, &mut found)
 }

@@ -1,12 +1,17 @@
 //! The calls of `tup.rows`.
+ghost use Rattle.std.specs.Prelude.{◌<◌, ◌≤◌, IfOk, length};
+
 use crate::cost::Cost;
 use crate::failing::Failing;
+use crate::length::{lengthen, store_length};
 use crate::many::write_many;
-use std::alloc::Global;
+use std::alloc::{AllocError, Global};
+use std::sync::Wait;
+use std::thread::Threads;
 use tup_graph::GraphFault;
 use tup_ledger::{begin, open, owned_paths};
 use tup_path::{Bytes, Items, Path, Paths};
-use tup_rows::{Answers, RowFault, Words, set};
+use tup_rows::{RowFault, Words, set};
 use tup_rule::RuleName;
 use tup_site::{MemSite, Site};
 use tup_stored_graph::Graph;
@@ -26,37 +31,21 @@ struct Project {
 
 /// The project that the rows above have left; none while `tup` has it.
 #[derive(Drop)]
-pub(crate) struct Session {
+pub(crate) struct Session<'a, W: Threads + Wait + Sync> {
+    rt: &'a W,
     project: Option<Project>,
 }
 
-impl Answers for Session {
-    fn answer(&mut self, alloc: Global, call: &str, said: &Words) -> Result<Words, RowFault> {
-        Ok(match call {
-            "folder" => self.begin(alloc, folder(alloc, 0), 0),
-            "failing_folder" => self.begin(alloc, folder(alloc, said.number_at(0)), 0),
-            "project" => self.begin(alloc, started(alloc, 0), 0),
-            "failing" => self.begin(alloc, started(alloc, said.number_at(0)), 0),
-            "failing_run" => self.begin(alloc, started(alloc, 0), said.number_at(0)),
-            "tup" => self.call(alloc, said, 0),
-            "tup_unheard" => self.call(alloc, said, 1),
-            _ => match &mut self.project {
-                Some(project) => answer_of_project(alloc, project, call, said),
-                None => Words::none(alloc, RowFault::Memory),
-            },
-        })
-    }
-}
-
-impl Session {
+impl<'a, W: Threads + Wait + Sync> Session<'a, W> {
     /// From a folder without a project on.
-    pub(crate) fn new(alloc: Global) -> Result<Session, RowFault> {
-        Ok(Session::over(alloc, folder(alloc, 0)?, 0))
+    pub(crate) fn new(rt: &'a W, alloc: Global) -> Result<Session<'a, W>, RowFault> {
+        Ok(Session::over(rt, alloc, folder(alloc, 0)?, 0))
     }
 
     /// Over a site, with a runner that fails at the run of this number, counted from 1.
-    fn over(alloc: Global, site: MemSite, run_fails: u64) -> Session {
+    fn over(rt: &'a W, alloc: Global, site: MemSite, run_fails: u64) -> Session<'a, W> {
         Session {
+            rt,
             project: Some(Project {
                 site,
                 runner: Failing::new(alloc, run_fails),
@@ -66,11 +55,29 @@ impl Session {
         }
     }
 
+    /// Answers the call of a row.
+    pub(crate) fn answer(&mut self, alloc: Global, call: &str, said: &Words) -> Words {
+        match call {
+            "folder" => self.begin(alloc, folder(alloc, 0), 0),
+            "failing_folder" => self.begin(alloc, folder(alloc, said.number_at(0)), 0),
+            "project" => self.begin(alloc, started(alloc, 0), 0),
+            "failing" => self.begin(alloc, started(alloc, said.number_at(0)), 0),
+            "failing_run" => self.begin(alloc, started(alloc, 0), said.number_at(0)),
+            "tup" => self.call(alloc, said, 0),
+            "tup_unheard" => self.call(alloc, said, 1),
+            "tup_by" => self.call_by(alloc, said),
+            _ => match &mut self.project {
+                Some(project) => answer_of_project(alloc, project, call, said),
+                None => Words::none(alloc, RowFault::Memory),
+            },
+        }
+    }
+
     /// Goes on with another site and another runner.
     fn begin(&mut self, alloc: Global, site: Result<MemSite, RowFault>, run_fails: u64) -> Words {
         match site {
             Ok(site) => {
-                set(self, Session::over(alloc, site, run_fails));
+                set(self, Session::over(self.rt, alloc, site, run_fails));
                 Words::done(alloc)
             }
             Err(fault) => Words::none(alloc, fault),
@@ -87,7 +94,10 @@ impl Session {
 
     fn call_on(&mut self, alloc: Global, said: &Words, project: Project, sink_fails: u64) -> Words {
         match vec![in alloc; sink_fails] {
-            Ok(fails) => self.run(alloc, said, project, &mut MemSink::new(alloc, fails)),
+            Ok(fails) => {
+                let words = words_from(alloc, said, 0);
+                self.run(alloc, &words, project, 1, &mut MemSink::new(alloc, fails))
+            }
             Err(_) => {
                 drop(project);
                 Words::none(alloc, RowFault::Memory)
@@ -95,8 +105,29 @@ impl Session {
         }
     }
 
-    /// Runs the program with a crew of the one runner.
-    fn run(&mut self, alloc: Global, said: &Words, project: Project, out: &mut MemSink) -> Words {
+    /// Calls the program with a crew of so many, and gives its exit number and the lines that it printed, in the order of
+    /// their bytes.
+    fn call_by(&mut self, alloc: Global, said: &Words) -> Words {
+        match self.project.take() {
+            Some(project) => {
+                let words = words_from(alloc, said, 1);
+                let mut out = MemSink::new(alloc, Vec::new(alloc));
+                let answer = self.run(alloc, &words, project, said.number_at(0), &mut out);
+                with_lines(alloc, &answer, &out)
+            }
+            None => Words::none(alloc, RowFault::Memory),
+        }
+    }
+
+    /// Runs the program with a crew of so many, the first of which is the project's runner.
+    fn run(
+        &mut self,
+        alloc: Global,
+        words: &[Word],
+        project: Project,
+        many: u64,
+        out: &mut MemSink,
+    ) -> Words {
         let Project {
             site,
             runner,
@@ -105,9 +136,9 @@ impl Session {
         } = project;
         drop(begun);
         let before = Cost::of(&site);
-        match vec![in alloc; runner] {
+        match crew_of(alloc, runner, many) {
             Ok(crew) => {
-                let ran = tup(alloc, &words_of(alloc, said), site, crew, out);
+                let ran = tup(self.rt, alloc, words, site, crew, out);
                 self.keep(alloc, ran, before, out)
             }
             Err(_) => {
@@ -238,6 +269,8 @@ fn answer_of_site(alloc: Global, site: &mut MemSite, call: &str, said: &Words) -
         "store" => listed(alloc, site),
         "store_bytes" => Words::word(alloc, site.store()),
         "write_store" => write_store(alloc, site, said.word_at(0)),
+        "store_length" => store_length(alloc, site),
+        "lengthen" => lengthen(alloc, site, said),
         _ => Words::none(alloc, RowFault::NoSuchCall),
     }
 }
@@ -313,13 +346,46 @@ fn write_store(alloc: Global, site: &mut MemSite, bytes: &[u8]) -> Words {
     }
 }
 
-/// The words of a command line.
-fn words_of(alloc: Global, said: &Words) -> Vec<Word> {
+/// The words of a command line, which stand in a row from a place on.
+fn words_from(alloc: Global, said: &Words, from: usize) -> Vec<Word> {
     let mut words = Vec::new(alloc);
-    for at in 0..said.len() {
+    for at in from..said.len() {
         if words.push(Word(said.text_at(alloc, at))).is_err() {
             said.fail(RowFault::Memory);
         }
     }
     words
+}
+
+/// A crew of so many, up to 16, of which this runner is the first; the others never fail.
+fn crew_of(alloc: Global, runner: Failing, many: u64) -> Result<Vec<Failing>, AllocError>
+    ensures { IfOk result (λ crew. (0 < length crew.items) × (length crew.items ≤ 16)) }
+{
+    let many = many.min(16) as usize;
+    let mut crew = vec![in alloc; runner]?;
+    while crew.len() < many {
+        crew.push(Failing::new(alloc, 0))?;
+    }
+    Ok(crew)
+}
+
+/// The exit number of an answer, and the lines that were printed, in the order of their bytes.
+fn with_lines(alloc: Global, answer: &Words, out: &MemSink) -> Words {
+    let mut words = Words::word(alloc, answer.word_at(0));
+    for line in &sorted_lines(alloc, answer, out.bytes().as_slice()) {
+        words.put(alloc, line);
+    }
+    words
+}
+
+/// The lines of a text, in the order of their bytes.
+fn sorted_lines<'a>(alloc: Global, said: &Words, text: &'a [u8]) -> Vec<&'a [u8]> {
+    let mut lines = Vec::new(alloc);
+    for line in text.split(|byte| *byte == b'\n') {
+        if !line.is_empty() && lines.push(line).is_err() {
+            said.fail(RowFault::Memory);
+        }
+    }
+    lines.sort_unstable();
+    lines
 }

@@ -1,5 +1,7 @@
 //! Turns as rows say them, and the histories that they make.
 use std::alloc::Global;
+use std::sync::Wait;
+use std::thread::Threads;
 use tup_history::{Lived, Turn, history};
 use tup_mini::Mini;
 use tup_path::{Bytes, Items, Path, Text};
@@ -46,14 +48,15 @@ pub(crate) fn run(alloc: Global, said: &Words, word: &str, stop_after: Option<u6
 }
 
 /// Carries out turns over a site, with a crew of one runner; none without memory for it.
-pub(crate) fn carried_out(
+pub(crate) fn carried_out<W: Threads + Wait + Sync>(
+    rt: &W,
     alloc: Global,
     site: MemSite,
     turns: Vec<Turn>,
     out: &mut MemSink,
 ) -> Option<Lived<Mini>> {
     match vec![in alloc; Mini::new(alloc)] {
-        Ok(crew) => Some(history(alloc, site, turns, crew, out)),
+        Ok(crew) => Some(history(rt, alloc, site, turns, crew, out)),
         Err(_) => {
             drop(site);
             drop(turns);
