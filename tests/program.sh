@@ -647,6 +647,30 @@ damaged "a commit that is cut off" 17 'tup-db2\001\000\000\000\000\000\000\000\0
 damaged "a record of no kind" 17 'tup-db2\001\000\000\000\000\000\000\000\000\000\001\000\000\000\011\001\000\001\153\000\000\000\001\166\000'
 damaged "a start in the head" 9 'tup-db2\001\001\000\000\000\000\000\000\000\000\000'
 
+# What an update did, one event after another, on standard error.
+logged() {
+    found=$("$tup" "$@" -j 1 2> "$work/said"; printf 'exit %s' "$?")
+    printf '%s' "$found" | tr '\n' ';'
+}
+project "$copy"
+same "a log" "$(logged --log)" "${done_copy}exit 0"
+same "a log, standard error" "$(tr '\n' ';' < "$work/said")" 'read .;started .: cp a b;ended .: cp a b: good;'
+same "a log of nothing" "$(logged upd --log)" "${nothing}exit 0"
+same "a log of nothing, standard error" "$(cat "$work/said")" ""
+row "--log twice" 2 'fault: usage, word 2;' --log --log
+row "todo --log" 2 'fault: usage, word 2;' todo --log
+echo ho > a
+found=$("$tup" --log -j 1 2>&-; printf 'exit %s' "$?")
+same "a log that can't be written" "$(printf '%s' "$found" | tr '\n' ';')" 'run .: cp a b;fault: a reporter failed;exit 10'
+file "the update is done" b ho
+echo hu > a
+found=$("$tup" --log -j 1 2> /dev/full; printf 'exit %s' "$?")
+same "a full log" "$(printf '%s' "$found" | tr '\n' ';')" 'run .: cp a b;fault: a reporter failed;exit 10'
+file "the update is done, too" b hu
+echo 'b: a' > Tupfile
+same "a log, and a fault of the Tupfiles" "$(logged --log)" 'fault: Tupfile:1: unknown line, read for .;exit 5'
+same "nothing was logged" "$(cat "$work/said")" ""
+
 project "$copy"
 "$tup" upd >&-
 same "a closed output" "$?" 9

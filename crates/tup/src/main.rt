@@ -8,6 +8,7 @@
 ghost use Rattle.tup_top.specs.Crew.{IsCrew};
 
 mod crew;
+mod error_log;
 mod hint;
 mod option_files;
 mod options;
@@ -18,6 +19,7 @@ mod top;
 mod words;
 
 use crew::{crew_of, minis, starters};
+use error_log::ErrorLog;
 use options::{Options, Voice};
 use output::Output;
 use screen::{ErrorScreen, manner};
@@ -33,6 +35,7 @@ use tup_fs::{FsSite, Syncs};
 use tup_path::Text;
 use tup_progress::{Manner, Progress, Started};
 use tup_runner::Runner;
+use tup_tell::LineReporter;
 use tup_top::{Order, Status, Word, order_of, tup};
 use words::words;
 
@@ -52,6 +55,7 @@ tup makes the files that the Tupfiles of a project ask for. It may be called in 
   tup -k          update, and go on after a bad command with what doesn't need it; also tup upd -k
   tup -j N        update, at most N commands at a time, 1 to 16; without it 4; also tup upd -j N, -jN
   tup --explain   update, and say behind each rule why it was run; also tup upd --explain
+  tup --log       update, and print to standard error what was read, removed, started and ended; also tup upd --log
   tup --verbose   update, and print each command before it is run; also tup upd --verbose
   tup --quiet     update, and show nothing while it runs; also tup upd --quiet
   tup --help      print this
@@ -59,7 +63,7 @@ tup makes the files that the Tupfiles of a project ask for. It may be called in 
 
 Exit numbers: 0 done, 1 a command's fault, 2 usage, 3 no project here, or one already, 4 damaged store,
 5 fault of the Tupfiles, 6 a file was changed by hand and no rule makes it, 7 the file tree or the store failed,
-8 the runner failed, 9 the output failed, 11 over a limit, 12 no memory, 13 the files differ from a clean build.
+8 the runner failed, 9 the output failed, 10 the log failed, 11 over a limit, 12 no memory, 13 the files differ from a clean build.
 ";
 
 /// How many commands an update runs at a time where nothing is said.
@@ -374,7 +378,18 @@ fn run_crew<W: Threads + Wait + Sync, R: Runner + Send>(
     requires { IsCrew crew.items }
 {
     let mut output = Output::new(&rt, call.manner == Manner::Over);
-    let ran = tup(crews, alloc, call.words, site, crew, &mut output);
+    let Ok(mut tellers) = log_of(rt, alloc, call) else {
+        return (no_memory(rt), back);
+    };
+    let ran = tup(
+        crews,
+        alloc,
+        call.words,
+        site,
+        crew,
+        &mut tellers,
+        &mut output,
+    );
     if let Some(failure) = ran.site.last() {
         // Words that can't be printed change nothing: the exit number tells as much.
         drop(eprintln!(rt; "tup: {failure}"));
@@ -386,6 +401,20 @@ fn run_crew<W: Threads + Wait + Sync, R: Runner + Send>(
         drop(back.push(progress.into_runner()));
     }
     (ran.status, back)
+}
+
+/// Who writes what an update did to standard error, where the words ask for that.
+fn log_of(
+    rt: HostRuntime,
+    alloc: Global,
+    call: &Call,
+) -> Result<Vec<LineReporter<ErrorLog>>, AllocError> {
+    let mut tellers = Vec::new(alloc);
+    if let Ok(Order::Upd { log: true, .. }) = order_of(call.words) {
+        let log = ErrorLog::new(rt, call.manner == Manner::Over);
+        tellers.push(LineReporter::new(alloc, log))?;
+    }
+    Ok(tellers)
 }
 
 /// Prints that there was no memory.

@@ -22,7 +22,7 @@ use Rattle.tup_top.specs.Promise.{ForInit, Lasts, NothingDone}
 use Rattle.tup_top.specs.Status.{IfBegan}
 use Rattle.tup_top.specs.declared.order.Order.TheVariants.{Init, Upd, Todo, Verify, Demo}
 use Rattle.tup_top.specs.declared.status.Status.{Status}
-use Rattle.tup_top.specs.declared.status.Status.TheVariants.{Done, Command, IllegalRead, IllegalWrite, Unwritten, TooManyReads, Usage, NotInit, AlreadyInit, BadStore, Parse, CircularDirs, CircularCommands, NoSuchGroup, UserFile, SiteFault, RunFault, SinkFault, Limit, Memory, Differs}
+use Rattle.tup_top.specs.declared.status.Status.TheVariants.{Done, Command, IllegalRead, IllegalWrite, Unwritten, TooManyReads, Usage, NotInit, AlreadyInit, BadStore, Parse, CircularDirs, CircularCommands, NoSuchGroup, UserFile, SiteFault, RunFault, SinkFault, TellFault, Limit, Memory, Differs}
 use Rattle.tup_history.specs.History.{AnswersDone}
 use Rattle.tup_history.specs.Kept.{IsUnbegun, IsKept, Stage, Unbegun, Begun, Stands}
 use Rattle.tup_history.specs.Run.{SaysDone, Leaves, Updates}
@@ -73,6 +73,7 @@ module _ (old new : MemSite) (next : Next) where
   made_by : (status : Status) → SaysDone status → IsUnbegun old → GoesOn moment_of left_since old new (BeginStep (world_in old)) → IfBegan status (Begins (world_in old) (world_in new)) → IfBegan status (Lasts (left_since new (moment_of new)) (world_in new)) → IsKept next new
   made_by (Done read ran removed) done kept on begins lasts = made kept on lasts begins.1
   made_by SinkFault done kept on begins lasts = made kept on lasts begins.1
+  made_by TellFault done kept on begins lasts = absurd begins
   made_by (Command rule status) done kept on begins lasts = absurd done
   made_by (IllegalRead rule text) done kept on begins lasts = absurd done
   made_by (IllegalWrite rule text) done kept on begins lasts = absurd done
@@ -124,8 +125,8 @@ module _ (old new : MemSite) (next : Next) where
 -- every run, by what its words ask for
 pub run_keeps : (tells : Bool) (next : Next) (many : ℕ) (wanted : Wanted) (end : End) (status : Status) (ran : List RuleName) (old new : MemSite) → end.status ≡ Some status → Leaves wanted old new status → NothingDone wanted (world_in old) (world_in new) → ForInit wanted status (Begins (world_in old) (world_in new)) →
     (IsTrue tells → IsKept next old → Updates next many wanted old new status ran) → (stage : Stage) → Stands next stage old → BehindRun tells next wanted (world_in old) (world_in new) end stage (λ later. Stands next later new)
-run_keeps tells next many (Ok (Upd program keep_going quiet verbose explain jobs)) end status ran old new is leaves nothing begins updates Unbegun kept = unbegun_keeps old new next (leaves.closed tt) kept
-run_keeps tells next many (Ok (Upd program keep_going quiet verbose explain jobs)) end status ran old new is leaves nothing begins updates Begun kept = λ means.
+run_keeps tells next many (Ok (Upd program keep_going quiet verbose explain jobs log)) end status ran old new is leaves nothing begins updates Unbegun kept = unbegun_keeps old new next (leaves.closed tt) kept
+run_keeps tells next many (Ok (Upd program keep_going quiet verbose explain jobs log)) end status ran old new is leaves nothing begins updates Begun kept = λ means.
     let by = updates means kept in
     (subst (Builds next (world_in old) (world_in new)) (sym is) by.files, by.kept tt)
 run_keeps tells next many (Ok Todo) end status ran old new is leaves nothing begins updates Unbegun kept = unbegun_keeps old new next (leaves.closed tt) kept

@@ -20,8 +20,8 @@ use Rattle.tup_history.proofs.Runs.{run_keeps}
 
 -- a larger promise
 run_on : (tells : Bool) (next : Next) (wanted : Wanted) (old new : World) (end : End) (stage : Stage) (P Q : Stage → Type 0) → ((later : Stage) → P later → Q later) → BehindRun tells next wanted old new end stage P → BehindRun tells next wanted old new end stage Q
-run_on tells next (Ok (Upd program keep_going quiet verbose explain jobs)) old new end Unbegun P Q on p = on Unbegun p
-run_on tells next (Ok (Upd program keep_going quiet verbose explain jobs)) old new end Begun P Q on p = λ means. let is = p means in (is.0, on Begun is.1)
+run_on tells next (Ok (Upd program keep_going quiet verbose explain jobs log)) old new end Unbegun P Q on p = on Unbegun p
+run_on tells next (Ok (Upd program keep_going quiet verbose explain jobs log)) old new end Begun P Q on p = λ means. let is = p means in (is.0, on Begun is.1)
 run_on tells next (Ok Todo) old new end Unbegun P Q on p = on Unbegun p
 run_on tells next (Ok Todo) old new end Begun P Q on p = λ means. on Begun (p means)
 run_on tells next (Ok Init) old new end Unbegun P Q on p = λ done. on Begun (p done)

@@ -22,13 +22,14 @@ use Rattle.tup_compare.specs.Compared.{HasCompared}
 use Rattle.tup_top.specs.Order.{Wanted, BringsUp, IsUpdate, goes_on, used}
 use Rattle.tup_top.specs.Promise.{FindsOut, ForUpdate, ForInit, ForTodo, ForVerify, Lasts, NothingDone, OnceDone, OpensStore, QuietStep, Counts, HasPlainCause, Initializes, Compares}
 use Rattle.tup_top.specs.declared.status.Status.{Status}
-use Rattle.tup_top.specs.declared.status.Status.TheVariants.{Done, SinkFault}
+use Rattle.tup_top.specs.declared.status.Status.TheVariants.{Done, SinkFault, TellFault}
 use Rattle.tup_history.specs.Kept.{IsKept}
 
--- the answer says that all was done, and that its lines were written or couldn't be
+-- the answer says that all was done, whoever was told or wasn't
 abbrev pub SaysDone : Status → Type 0
 SaysDone (Done read ran removed) = ⊤
 SaysDone SinkFault = ⊤
+SaysDone TellFault = ⊤
 SaysDone other = ⊥
 
 -- What a run leaves of a world, what it answers, and which rules it began. The site, the runners and the sink count their

@@ -48,7 +48,7 @@ BehindTodo tells Begun promise = IsTrue tells → promise Begun
 
 -- behind a run of the program
 abbrev pub BehindRun : Bool → Next → Wanted → World → World → End → Stage → (Stage → Type 0) → Type 0
-BehindRun tells next (Ok (Upd program keep_going quiet verbose explain jobs)) old new end stage promise = BehindUpdate tells next old new end stage promise
+BehindRun tells next (Ok (Upd program keep_going quiet verbose explain jobs log)) old new end stage promise = BehindUpdate tells next old new end stage promise
 BehindRun tells next (Ok Todo) old new end stage promise = BehindTodo tells stage promise
 BehindRun tells next (Ok Init) old new end stage promise = BehindInit end stage promise
 BehindRun tells next other old new end stage promise = promise stage

@@ -179,6 +179,7 @@ fn take_run<W: Threads + Wait + Sync, R: Runner + Send, K: Sink>(
         mut site,
         crew,
         ran,
+        ..
     } = run(rt, alloc, words, site, crew, out);
     go_on(&mut site, stop_after);
     let end = End {

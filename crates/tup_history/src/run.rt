@@ -12,10 +12,10 @@ use std::sync::Wait;
 use std::thread::Threads;
 use tup_runner::Runner;
 use tup_site::MemSite;
-use tup_tell::Sink;
+use tup_tell::{Keep, Sink};
 use tup_top::{Ran, Word, tup};
 
-/// Runs the program over a site that lets its calls pass or not.
+/// Runs the program over a site that lets its calls pass or not. There are no reporters.
 pub(crate) fn run<W: Threads + Wait + Sync, R: Runner + Send, K: Sink>(
     rt: &W,
     alloc: Global,
@@ -23,7 +23,7 @@ pub(crate) fn run<W: Threads + Wait + Sync, R: Runner + Send, K: Sink>(
     site: MemSite,
     crew: Vec<R>,
     out: &mut K,
-) -> Ran<MemSite, R>
+) -> Ran<MemSite, R, Keep>
     requires crew { IsCrew crew.items }
     ensures keeps { let counted = counts faults_of R.faults K.faults in
         let before = counted site crew.items out.old in
@@ -36,7 +36,8 @@ pub(crate) fn run<W: Threads + Wait + Sync, R: Runner + Send, K: Sink>(
         Updates R.next many (order words.now) site result.site result.status result.ran }
     ensures crew { IsCrew result.crew.items }
 {
-    tup(rt, alloc, words, site, crew, out)
+    let mut tellers: Vec<Keep> = Vec::new(alloc);
+    tup(rt, alloc, words, site, crew, &mut tellers, out)
 }
 
 /// Lets only so many more calls of the site pass, where that is said.

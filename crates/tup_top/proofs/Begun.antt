@@ -23,7 +23,7 @@ use Rattle.tup_top.specs.Printed.{IsDone, Ends, Prints, PrintsBegun}
 use Rattle.tup_top.specs.Promise.{Counts, HasBegunCause, NothingFailed, IsDoneOrMemory}
 use Rattle.tup_top.specs.Status.{status_of_begun, IfBegan}
 use Rattle.tup_top.specs.declared.status.Status.{Status}
-use Rattle.tup_top.specs.declared.status.Status.TheVariants.{Done, Command, IllegalRead, IllegalWrite, Unwritten, TooManyReads, Usage, NotInit, AlreadyInit, BadStore, Parse, CircularDirs, CircularCommands, NoSuchGroup, UserFile, SiteFault, RunFault, SinkFault, Limit, Memory, Differs}
+use Rattle.tup_top.specs.declared.status.Status.TheVariants.{Done, Command, IllegalRead, IllegalWrite, Unwritten, TooManyReads, Usage, NotInit, AlreadyInit, BadStore, Parse, CircularDirs, CircularCommands, NoSuchGroup, UserFile, SiteFault, RunFault, SinkFault, TellFault, Limit, Memory, Differs}
 use Rattle.tup_top.proofs.Success.{not_rose}
 
 -- what is promised of how a project began is promised of the status that tells of it
@@ -142,6 +142,7 @@ initializes_so old new before now (UserFile path) begins counted empty fine = ab
 initializes_so old new before now SiteFault begins counted empty fine = not_rose before.site now.site fine.site fine.site_counts counted
 initializes_so old new before now RunFault begins counted empty fine = absurd counted
 initializes_so old new before now SinkFault begins counted empty fine = not_rose before.sink now.sink fine.sink fine.sink_counts counted.1
+initializes_so old new before now TellFault begins counted empty fine = absurd counted
 initializes_so old new before now (Limit what number) begins counted empty fine = absurd counted
 initializes_so old new before now Memory begins counted empty fine = tt
 initializes_so old new before now (Differs path) begins counted empty fine = absurd counted

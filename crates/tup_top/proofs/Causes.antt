@@ -21,11 +21,11 @@ use Rattle.tup_promise.specs.declared.log.Log.{Log}
 use Rattle.tup_promise.specs.declared.stop.Stop.{Stop}
 use Rattle.tup_promise.specs.declared.stop.Stop.TheVariants.{NoStore, BadStore as StoreDamaged, Sources, UserFile as IsUsers, Bad, Run, Full, Outside}
 use Rattle.tup_top.specs.Lines.{lines}
-use Rattle.tup_top.specs.Promise.{Counts, AreSteady, OneFailedAtMost, HasCountedCause, HasCrewCause, HasSharedCause, Logs, OpensStore}
-use Rattle.tup_top.specs.Printed.{IsDone, Ends, Prints, Told, PrintsUpdate, SaysWhyOf}
+use Rattle.tup_top.specs.Promise.{Counts, AreSteady, OneFailedAtMost, HasAloneCause, HasCountedCause, HasCrewCause, HasSharedCause, Logs, OpensStore}
+use Rattle.tup_top.specs.Printed.{IsDone, Ends, EndsTold, Prints, Told, PrintsUpdate, SaysWhyOf}
 use Rattle.tup_top.specs.Status.{status_of, status_of_sources, IfCame, after_sink_fault}
 use Rattle.tup_top.specs.declared.status.Status.{Status}
-use Rattle.tup_top.specs.declared.status.Status.TheVariants.{Done, Command, IllegalRead, IllegalWrite, Unwritten, TooManyReads, Usage, NotInit, AlreadyInit, BadStore, Parse, CircularDirs, CircularCommands, NoSuchGroup, UserFile, SiteFault, RunFault, SinkFault, Limit, Memory, Differs}
+use Rattle.tup_top.specs.declared.status.Status.TheVariants.{Done, Command, IllegalRead, IllegalWrite, Unwritten, TooManyReads, Usage, NotInit, AlreadyInit, BadStore, Parse, CircularDirs, CircularCommands, NoSuchGroup, UserFile, SiteFault, RunFault, SinkFault, TellFault, Limit, Memory, Differs}
 use Rattle.tup_top.specs.declared.status.What.TheVariants.{Files, FileSize, Commands, Links, StoreSize}
 
 -- what is promised of sources that ask for no rules is promised of the status that tells why
@@ -100,6 +100,7 @@ came_on P Q on (UserFile path) (written, found, p) = (written, found, on (Some (
 came_on P Q on SiteFault p = on (Some (Outside Fault)) p
 came_on P Q on RunFault p = on (Some Run) p
 came_on P Q on SinkFault p = on None p
+came_on P Q on TellFault p = on None p
 came_on P Q on (Limit Files number) (count, passed, p) = (count, passed, on (Some (Sources (sources.TooManyFiles count))) p)
 came_on P Q on (Limit FileSize number) (count, passed, p) = (count, passed, on (Some (Outside (TooLarge count))) p)
 came_on P Q on (Limit Commands number) (count, passed, p) = (count, passed, on (Some (Sources (sources.TooManyCommands count))) p)
@@ -135,6 +136,13 @@ answered P before now old new log stopped status answer is (inl e) cause p memor
 answered P before now old new log stopped status answer is (inr (inl e)) cause p memory =
     subst (λ (s : Status). IfCame s P) (sym e) memory
 answered P before now old new log stopped status answer is (inr (inr (e, done, rose))) cause p memory =
+    subst (λ (s : Status). IfCame s P) (sym e) (subst P (done_is_none log stopped (subst IsDone is done)) p)
+
+-- so it is where reporters were told before
+pub answered_told : (P : Option Stop → Type 0) (before now old new : ℕ) (log : Log) (stopped : Option Stop) (status answer : Status) → status ≡ status_of log stopped → EndsTold before now status answer →
+    StopHasSharedCause old new stopped → P stopped → P (Some (Outside NoMemory)) → IfCame answer P
+answered_told P before now old new log stopped status answer is (inl ends) cause p memory = answered P before now old new log stopped status answer is ends cause p memory
+answered_told P before now old new log stopped status answer is (inr (e, done)) cause p memory =
     subst (λ (s : Status). IfCame s P) (sym e) (subst P (done_is_none log stopped (subst IsDone is done)) p)
 
 -- ---- counts
@@ -210,6 +218,43 @@ module _ (site_before site_now run_before run_now sink_before sink_now : ℕ) wh
       subst (HasCountedCause counts_before counts_now) (sym e)
       (steady (subst (StopHasCountedCause site_before site_now) none cause) (subst (HasRunCause run_before run_now) none run), rose)
 
+-- the causes that every call may have are causes of an update
+as_alone : (before now : Counts) (status : Status) → HasCountedCause before now status → HasAloneCause before now status
+as_alone before now (Done read ran removed) cause = cause
+as_alone before now (Command rule status) cause = cause
+as_alone before now (IllegalRead rule text) cause = cause
+as_alone before now (IllegalWrite rule text) cause = cause
+as_alone before now (Unwritten rule path) cause = cause
+as_alone before now (TooManyReads rule) cause = cause
+as_alone before now (Usage place) cause = cause
+as_alone before now NotInit cause = cause
+as_alone before now AlreadyInit cause = cause
+as_alone before now (BadStore offset) cause = cause
+as_alone before now (Parse fault) cause = cause
+as_alone before now (CircularDirs cycle) cause = cause
+as_alone before now (CircularCommands cycle) cause = cause
+as_alone before now (NoSuchGroup group) cause = cause
+as_alone before now (UserFile path) cause = cause
+as_alone before now SiteFault cause = cause
+as_alone before now RunFault cause = cause
+as_alone before now SinkFault cause = cause
+as_alone before now TellFault cause = absurd cause
+as_alone before now (Limit what number) cause = cause
+as_alone before now Memory cause = cause
+as_alone before now (Differs path) cause = cause
+
+-- no count rises unseen where reporters were told before
+told_counted : (site_before site_now run_before run_now sink_before sink_now : ℕ) (log : Log) (stopped : Option Stop) (status answer : Status) → status ≡ status_of log stopped → EndsTold sink_before sink_now status answer →
+    (IsDone answer → sink_now ≡ sink_before) → StopHasCountedCause site_before site_now stopped → HasRunCause run_before run_now stopped →
+    HasAloneCause (of_one site_before run_before sink_before) (of_one site_now run_now sink_now) answer
+told_counted site_before site_now run_before run_now sink_before sink_now log stopped status answer is (inl ends) sink cause run =
+    as_alone (of_one site_before run_before sink_before) (of_one site_now run_now sink_now) answer
+    (counted_cause site_before site_now run_before run_now sink_before sink_now log stopped status answer is ends sink cause run)
+told_counted site_before site_now run_before run_now sink_before sink_now log stopped status answer is (inr (e, done)) sink cause run =
+    let none = done_is_none log stopped (subst IsDone is done) in
+    subst (HasAloneCause (of_one site_before run_before sink_before) (of_one site_now run_now sink_now)) (sym e)
+    (steady site_before site_now run_before run_now sink_before sink_now (subst (StopHasCountedCause site_before site_now) none cause) (subst (HasRunCause run_before run_now) none run))
+
 -- ---- counts of a crew
 
 shared_of_sources : (before now : Counts) (fault : SourcesFault) → AreSteady before now → HasSharedCause before now (status_of_sources fault)
@@ -279,13 +324,21 @@ module _ (site_before site_now : ℕ) (runs_before runs_now : List ℕ) (sink_be
       subst (HasSharedCause crew_before crew_now) (sym e)
       ((subst (StopHasSharedCause site_before site_now) none cause, subst (CrewRunCause runs_before runs_now) none run), rose)
 
+  shared_told : (log : Log) (stopped : Option Stop) (status answer : Status) → status ≡ status_of log stopped → EndsTold sink_before sink_now status answer →
+      (IsDone answer → sink_now ≡ sink_before) → StopHasSharedCause site_before site_now stopped → CrewRunCause runs_before runs_now stopped → HasSharedCause crew_before crew_now answer
+  shared_told log stopped status answer is (inl ends) sink cause run = shared_counts log stopped status answer is ends sink cause run
+  shared_told log stopped status answer is (inr (e, done)) sink cause run =
+      let none = done_is_none log stopped (subst IsDone is done) in
+      subst (HasSharedCause crew_before crew_now) (sym e)
+      (subst (StopHasSharedCause site_before site_now) none cause, subst (CrewRunCause runs_before runs_now) none run)
+
 -- so no count of a crew of one rises unseen, and none of a larger one where nothing stopped it
-module _ (site_before site_now sink_before sink_now : ℕ) (log : Log) (stopped : Option Stop) (status answer : Status) (is : status ≡ status_of log stopped) (ends : Ends sink_before sink_now status answer)
+module _ (site_before site_now sink_before sink_now : ℕ) (log : Log) (stopped : Option Stop) (status answer : Status) (is : status ≡ status_of log stopped) (ends : EndsTold sink_before sink_now status answer)
     (sink : IsDone answer → sink_now ≡ sink_before) where
   counts_alone : (runs_before runs_now : List ℕ) → length runs_now ≡ length runs_before → StopHasCountedCause site_before site_now stopped → CrewRunCause runs_before runs_now stopped → length runs_before ≡ 1 →
-      HasCountedCause (crew_before site_before site_now runs_before runs_now sink_before sink_now) (crew_now site_before site_now runs_before runs_now sink_before sink_now) answer
+      HasAloneCause (crew_before site_before site_now runs_before runs_now sink_before sink_now) (crew_now site_before site_now runs_before runs_now sink_before sink_now) answer
   counts_alone (before ∷ []) (now ∷ []) many cause run one =
-      counted_cause site_before site_now before now sink_before sink_now log stopped status answer is ends sink cause (alone_run before now stopped run)
+      told_counted site_before site_now before now sink_before sink_now log stopped status answer is ends sink cause (alone_run before now stopped run)
   counts_alone [] runs_now many cause run one = absurd (omega (arith, one))
   counts_alone (before ∷ []) [] many cause run one = absurd (omega (arith, many))
   counts_alone (before ∷ []) (now ∷ other ∷ others) many cause run one = absurd (omega (arith, many))
@@ -294,13 +347,13 @@ module _ (site_before site_now sink_before sink_now : ℕ) (log : Log) (stopped 
   pub crew_counted : (runs_before runs_now : List ℕ) → length runs_now ≡ length runs_before → CrewCountedCause (length runs_before) site_before site_now stopped → CrewRunCause runs_before runs_now stopped →
       HasCrewCause (length runs_before) (crew_before site_before site_now runs_before runs_now sink_before sink_now) (crew_now site_before site_now runs_before runs_now sink_before sink_now) answer
   crew_counted runs_before runs_now many cause run = record {
-    any = shared_counts site_before site_now runs_before runs_now sink_before sink_now log stopped status answer is ends sink cause.any run;
+    any = shared_told site_before site_now runs_before runs_now sink_before sink_now log stopped status answer is ends sink cause.any run;
     alone = λ one. counts_alone runs_before runs_now many (cause.alone one) run one;
   }
 
 -- by what the runners of a crew count
 pub crew_answers : {R : Type 0} (count : R → ℕ) (before now : List R) (site_before site_now sink_before sink_now : ℕ) (log : Log) (stopped : Option Stop) (status answer : Status) → status ≡ status_of log stopped →
-    Ends sink_before sink_now status answer → (IsDone answer → sink_now ≡ sink_before) → length now ≡ length before → CrewCountedCause (length before) site_before site_now stopped → CrewRunCause (map count before) (map count now) stopped →
+    EndsTold sink_before sink_now status answer → (IsDone answer → sink_now ≡ sink_before) → length now ≡ length before → CrewCountedCause (length before) site_before site_now stopped → CrewRunCause (map count before) (map count now) stopped →
     HasCrewCause (length before) (record { site = site_before; runners = map count before; sink = sink_before }) (record { site = site_now; runners = map count now; sink = sink_now }) answer
 crew_answers count before now site_before site_now sink_before sink_now log stopped status answer is ends sink many cause run =
     let is_long = length-map before count in
@@ -330,6 +383,7 @@ ends_after before now (UserFile path) rose = inl refl
 ends_after before now SiteFault rose = inl refl
 ends_after before now RunFault rose = inl refl
 ends_after before now SinkFault rose = inl refl
+ends_after before now TellFault rose = inl refl
 ends_after before now (Limit what number) rose = inl refl
 ends_after before now Memory rose = inl refl
 ends_after before now (Differs path) rose = inl refl
@@ -354,6 +408,7 @@ memory_after (UserFile path) is = is
 memory_after SiteFault is = is
 memory_after RunFault is = is
 memory_after SinkFault is = is
+memory_after TellFault is = is
 memory_after (Limit what number) is = is
 memory_after Memory is = is
 memory_after (Differs path) is = is
@@ -396,11 +451,14 @@ told_nothing jobs site keep_going says none w = record {
   unopened = λ _. inr (record { world = inl refl; empty = record { read = refl; removed = refl; ran = refl; ended = refl } });
 }
 
-pub prints_no_update : (jobs : ℕ) (site keep_going : Bool) (says : Log → List (Option (List ℕ)) → Type 0) → says nothing_logged [] → (w : World) (before now : ℕ) (held : List ℕ) → PrintsUpdate jobs site keep_going says w w [] before now held held Memory
-prints_no_update jobs site keep_going says none w before now held = record {
+pub prints_no_update : (jobs : ℕ) (site keep_going : Bool) (says : Log → List (Option (List ℕ)) → Type 0) → says nothing_logged [] → (hears : Log → Status → Status → Type 0) → hears nothing_logged Memory Memory → (w : World) (before now : ℕ) (held : List ℕ) →
+    PrintsUpdate jobs site keep_going says hears w w [] before now held held Memory
+prints_no_update jobs site keep_going says none hears unheard w before now held = record {
   told = told_nothing jobs site keep_going says none w;
+  status = Memory;
+  heard = unheard;
   ends = inl refl;
-  prints = prints_nothing Memory (lines nothing_logged [] Memory) before now held;
+  prints = prints_nothing Memory (lines (told_nothing jobs site keep_going says none w).log [] Memory) before now held;
 }
 
 -- of an update that began no rule nothing is said
@@ -408,8 +466,8 @@ pub says_none : {S : Type 0} (site : Site S) (old : S) (explain : Bool) → Says
 says_none site old true = (([], refl), λ tells kept asked. ([], inl (refl, refl)))
 says_none site old false = (([], refl), λ tells kept asked. ([], inl (refl, refl)))
 
--- the lines of an update over a world that is this one, of whose rules less is said
-module _ (jobs : ℕ) (site keep_going : Bool) (P Q : Log → List (Option (List ℕ)) → Type 0) (was world left : World) (ran : List RuleName) (before now : ℕ) (old new : List ℕ) (answer : Status) where
+-- the lines of an update over a world that is this one, of whose rules and reporters less is said
+module _ (jobs : ℕ) (site keep_going : Bool) (P Q : Log → List (Option (List ℕ)) → Type 0) (H I : Log → Status → Status → Type 0) (was world left : World) (ran : List RuleName) (before now : ℕ) (old new : List ℕ) (answer : Status) where
   abbrev told_less : Told jobs site keep_going P was left ran → ((log : Log) (chains : List (Option (List ℕ))) → P log chains → Q log chains) → Told jobs site keep_going Q was left ran
   told_less told on = record {
     log = told.log;
@@ -421,10 +479,17 @@ module _ (jobs : ℕ) (site keep_going : Bool) (P Q : Log → List (Option (List
     unopened = told.unopened;
   }
 
-  pub says_less : was ≡ world → PrintsUpdate jobs site keep_going P was left ran before now old new answer → ((log : Log) (chains : List (Option (List ℕ))) → P log chains → Q log chains) → PrintsUpdate jobs site keep_going Q world left ran before now old new answer
-  says_less same given on =
-      let less : PrintsUpdate jobs site keep_going Q was left ran before now old new answer = record { told = told_less given.told on; ends = given.ends; prints = given.prints } in
-      subst (λ (w : World). PrintsUpdate jobs site keep_going Q w left ran before now old new answer) same less
+  pub says_less : was ≡ world → PrintsUpdate jobs site keep_going P H was left ran before now old new answer → ((log : Log) (chains : List (Option (List ℕ))) → P log chains → Q log chains) → ((log : Log) (came status : Status) → H log came status → I log came status)
+      → PrintsUpdate jobs site keep_going Q I world left ran before now old new answer
+  says_less same given on hears =
+      let less : PrintsUpdate jobs site keep_going Q I was left ran before now old new answer = record {
+        told = told_less given.told on;
+        status = given.status;
+        heard = hears given.told.log (status_of given.told.log given.told.stopped) given.status given.heard;
+        ends = given.ends;
+        prints = given.prints;
+      } in
+      subst (λ (w : World). PrintsUpdate jobs site keep_going Q I w left ran before now old new answer) same less
 
 -- ---- how the store was gone on from
 

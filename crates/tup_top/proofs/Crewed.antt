@@ -12,9 +12,9 @@ use Rattle.tup_compare.specs.declared.compare.Compared.{Compared}
 use Rattle.tup_promise.specs.declared.stop.Stop.{Stop}
 use Rattle.tup_promise.specs.declared.stop.Stop.TheVariants.{Outside}
 use Rattle.tup_top.specs.Crew.{CrewCompares}
-use Rattle.tup_top.specs.Promise.{Counts, beside, AreSteady, OneFailedAtMost, HasCountedCause, HasComparedCause, HasCrewCause, HasSharedCause}
+use Rattle.tup_top.specs.Promise.{Counts, beside, AreSteady, OneFailedAtMost, HasAloneCause, HasCountedCause, HasComparedCause, HasCrewCause, HasSharedCause}
 use Rattle.tup_top.specs.declared.status.Status.{Status}
-use Rattle.tup_top.specs.declared.status.Status.TheVariants.{Done, Command, IllegalRead, IllegalWrite, Unwritten, TooManyReads, Usage, NotInit, AlreadyInit, BadStore, Parse, CircularDirs, CircularCommands, NoSuchGroup, UserFile, SiteFault, RunFault, SinkFault, Limit, Memory, Differs}
+use Rattle.tup_top.specs.declared.status.Status.TheVariants.{Done, Command, IllegalRead, IllegalWrite, Unwritten, TooManyReads, Usage, NotInit, AlreadyInit, BadStore, Parse, CircularDirs, CircularCommands, NoSuchGroup, UserFile, SiteFault, RunFault, SinkFault, TellFault, Limit, Memory, Differs}
 use Rattle.tup_top.specs.Status.{IfCompared}
 use Rattle.tup_top.proofs.Causes.{of_one, never_rose}
 use Rattle.tup_top.proofs.Verified.{compared_on}
@@ -80,6 +80,7 @@ module _ (site_before site_now : ℕ) (run_before run_now : List ℕ) (sink_befo
   causes_of_crew SiteFault cause = (cause.0, same_runners cause.1)
   causes_of_crew RunFault cause = (cause.0, one_of_more run_before run_now others cause.1)
   causes_of_crew SinkFault cause = (steady cause.0, cause.1)
+  causes_of_crew TellFault cause = cause
   causes_of_crew (Limit what number) cause = (steady cause.0, cause.1)
   causes_of_crew Memory cause = failed_once cause
   causes_of_crew (Differs path) cause = cause
@@ -103,15 +104,41 @@ module _ (site_before site_now : ℕ) (run_before run_now : List ℕ) (sink_befo
   shared_of_crew SiteFault cause = cause
   shared_of_crew RunFault cause = one_of_more run_before run_now others cause
   shared_of_crew SinkFault cause = (steady cause.0, cause.1)
+  shared_of_crew TellFault cause = steady cause
   shared_of_crew (Limit what number) cause = cause
   shared_of_crew Memory cause = tt
   shared_of_crew (Differs path) cause = cause
 
-  -- so are those of an update by some of its runners
+  -- so are those of an update by one of them
+  alone_of_crew : (status : Status) → HasAloneCause some_before some_now status → HasAloneCause crew_before crew_now status
+  alone_of_crew (Done read ran removed) cause = causes_of_crew (Done read ran removed) cause
+  alone_of_crew (Command rule status) cause = causes_of_crew (Command rule status) cause
+  alone_of_crew (IllegalRead rule text) cause = causes_of_crew (IllegalRead rule text) cause
+  alone_of_crew (IllegalWrite rule text) cause = causes_of_crew (IllegalWrite rule text) cause
+  alone_of_crew (Unwritten rule path) cause = causes_of_crew (Unwritten rule path) cause
+  alone_of_crew (TooManyReads rule) cause = causes_of_crew (TooManyReads rule) cause
+  alone_of_crew (Usage place) cause = causes_of_crew (Usage place) cause
+  alone_of_crew NotInit cause = causes_of_crew NotInit cause
+  alone_of_crew AlreadyInit cause = causes_of_crew AlreadyInit cause
+  alone_of_crew (BadStore offset) cause = causes_of_crew (BadStore offset) cause
+  alone_of_crew (Parse fault) cause = causes_of_crew (Parse fault) cause
+  alone_of_crew (CircularDirs cycle) cause = causes_of_crew (CircularDirs cycle) cause
+  alone_of_crew (CircularCommands cycle) cause = causes_of_crew (CircularCommands cycle) cause
+  alone_of_crew (NoSuchGroup group) cause = causes_of_crew (NoSuchGroup group) cause
+  alone_of_crew (UserFile path) cause = causes_of_crew (UserFile path) cause
+  alone_of_crew SiteFault cause = causes_of_crew SiteFault cause
+  alone_of_crew RunFault cause = causes_of_crew RunFault cause
+  alone_of_crew SinkFault cause = causes_of_crew SinkFault cause
+  alone_of_crew TellFault cause = steady cause
+  alone_of_crew (Limit what number) cause = causes_of_crew (Limit what number) cause
+  alone_of_crew Memory cause = causes_of_crew Memory cause
+  alone_of_crew (Differs path) cause = causes_of_crew (Differs path) cause
+
+  -- and those of an update by some of its runners
   pub some_of_crew : (jobs : ℕ) (status : Status) → HasCrewCause jobs some_before some_now status → HasCrewCause jobs crew_before crew_now status
   some_of_crew jobs status cause = record {
     any = shared_of_crew status cause.any;
-    alone = λ one. causes_of_crew status (cause.alone one);
+    alone = λ one. alone_of_crew status (cause.alone one);
   }
 
   -- those of a comparison too
@@ -135,6 +162,7 @@ module _ (site_before site_now : ℕ) (run_before run_now : List ℕ) (sink_befo
   compared_of_crew SiteFault cause = causes_of_crew SiteFault cause
   compared_of_crew RunFault cause = causes_of_crew RunFault cause
   compared_of_crew SinkFault cause = causes_of_crew SinkFault cause
+  compared_of_crew TellFault cause = causes_of_crew TellFault cause
   compared_of_crew (Limit what number) cause = causes_of_crew (Limit what number) cause
   compared_of_crew Memory cause = causes_of_crew Memory cause
 
@@ -203,6 +231,7 @@ module _ (site_before site_now sink_before sink_now : ℕ) (runners : List ℕ) 
   idle_crew SiteFault cause = (cause.0, refl)
   idle_crew RunFault cause = absurd (never_rose cause.1)
   idle_crew SinkFault cause = (still cause.0, cause.1)
+  idle_crew TellFault cause = cause
   idle_crew (Limit what number) cause = (still cause.0, cause.1)
   idle_crew Memory cause = one_failed cause
   idle_crew (Differs path) cause = cause

@@ -11,16 +11,16 @@ use Rattle.tup_graph.specs.declared.owned.Owned.{Owned}
 use Rattle.tup_ledger.specs.Listing.{Lists}
 use Rattle.tup_compare.proofs.Held.{there, undamaged}
 use Rattle.tup_top.specs.Printed.{demo_world}
-use Rattle.tup_top.specs.Promise.{HasCountedCause, HasCrewCause, HasDemoCause, OpensStore}
+use Rattle.tup_top.specs.Promise.{HasAloneCause, HasCrewCause, HasDemoCause, OpensStore}
 use Rattle.tup_top.specs.Status.{IfCame}
 use Rattle.tup_top.specs.declared.status.Status.{Status}
-use Rattle.tup_top.specs.declared.status.Status.TheVariants.{Done, Command, IllegalRead, IllegalWrite, Unwritten, TooManyReads, Usage, NotInit, AlreadyInit, BadStore, Parse, CircularDirs, CircularCommands, NoSuchGroup, UserFile, SiteFault, RunFault, SinkFault, Limit, Memory, Differs}
+use Rattle.tup_top.specs.declared.status.Status.TheVariants.{Done, Command, IllegalRead, IllegalWrite, Unwritten, TooManyReads, Usage, NotInit, AlreadyInit, BadStore, Parse, CircularDirs, CircularCommands, NoSuchGroup, UserFile, SiteFault, RunFault, SinkFault, TellFault, Limit, Memory, Differs}
 use Rattle.tup_top.proofs.Causes.{never_rose, of_one}
 use Rattle.tup_top.proofs.Success.{not_rose}
 
 -- ---- what its store lists
 
-no_length : {A : Type 0} (items : List A) → length items ≡ 0 → items ≡ []
+pub no_length : {A : Type 0} (items : List A) → length items ≡ 0 → items ≡ []
 no_length [] e = refl
 no_length (item ∷ items) e = absurd (omega (arith, e))
 
@@ -46,33 +46,34 @@ lists_nothing = record {
 
 -- ---- why it ends
 
-pub demo_cause : (left : World) (ran : List RuleName) (before now : ℕ) (status : Status) → IfCame status (OpensStore demo_world left ran) → HasCountedCause (of_one 0 0 before) (of_one 0 0 now) status → HasDemoCause before now status
-demo_cause left ran before now (Done read done removed) opens counts = counts.1
-demo_cause left ran before now (Command rule status) opens counts = tt
-demo_cause left ran before now (IllegalRead rule text) opens counts = tt
-demo_cause left ran before now (IllegalWrite rule text) opens counts = tt
-demo_cause left ran before now (Unwritten rule path) opens counts = tt
-demo_cause left ran before now (TooManyReads rule) opens counts = tt
-demo_cause left ran before now (Usage place) opens counts = counts
-demo_cause left ran before now NotInit (log, begun, (none, idle)) counts = there demo_world.store [] lists_nothing none
-demo_cause left ran before now AlreadyInit opens counts = counts
-demo_cause left ran before now (BadStore offset) (log, begun, (damaged, idle)) counts = undamaged demo_world.store [] offset lists_nothing damaged
-demo_cause left ran before now (Parse fault) opens counts = tt
-demo_cause left ran before now (CircularDirs cycle) opens counts = tt
-demo_cause left ran before now (CircularCommands cycle) opens counts = tt
-demo_cause left ran before now (NoSuchGroup group) opens counts = tt
-demo_cause left ran before now (UserFile path) opens counts = tt
-demo_cause left ran before now SiteFault opens counts = not_rose 0 0 refl (omega arith) counts.0
-demo_cause left ran before now RunFault opens counts = never_rose counts.1
-demo_cause left ran before now SinkFault opens counts = counts.1
-demo_cause left ran before now (Limit what number) opens counts = counts.1
-demo_cause left ran before now Memory opens counts = tt
-demo_cause left ran before now (Differs path) opens counts = counts
+pub demo_cause : (left : World) (ran : List RuleName) (before now : ℕ) (status : Status) → IfCame status (OpensStore demo_world left ran) → HasAloneCause (of_one 0 0 before) (of_one 0 0 now) status → (status ≡ TellFault → ⊥) → HasDemoCause before now status
+demo_cause left ran before now (Done read done removed) opens counts told = counts.1
+demo_cause left ran before now (Command rule status) opens counts told = tt
+demo_cause left ran before now (IllegalRead rule text) opens counts told = tt
+demo_cause left ran before now (IllegalWrite rule text) opens counts told = tt
+demo_cause left ran before now (Unwritten rule path) opens counts told = tt
+demo_cause left ran before now (TooManyReads rule) opens counts told = tt
+demo_cause left ran before now (Usage place) opens counts told = counts
+demo_cause left ran before now NotInit (log, begun, (none, idle)) counts told = there demo_world.store [] lists_nothing none
+demo_cause left ran before now AlreadyInit opens counts told = counts
+demo_cause left ran before now (BadStore offset) (log, begun, (damaged, idle)) counts told = undamaged demo_world.store [] offset lists_nothing damaged
+demo_cause left ran before now (Parse fault) opens counts told = tt
+demo_cause left ran before now (CircularDirs cycle) opens counts told = tt
+demo_cause left ran before now (CircularCommands cycle) opens counts told = tt
+demo_cause left ran before now (NoSuchGroup group) opens counts told = tt
+demo_cause left ran before now (UserFile path) opens counts told = tt
+demo_cause left ran before now SiteFault opens counts told = not_rose 0 0 refl (omega arith) counts.0
+demo_cause left ran before now RunFault opens counts told = never_rose counts.1
+demo_cause left ran before now SinkFault opens counts told = counts.1
+demo_cause left ran before now TellFault opens counts told = told refl
+demo_cause left ran before now (Limit what number) opens counts told = counts.1
+demo_cause left ran before now Memory opens counts told = tt
+demo_cause left ran before now (Differs path) opens counts told = counts
 
 -- a crew of one that counts no failures
 pub demo_counts : {R : Type 0} (before now : List R) (sink_before sink_now : ℕ) (status : Status) → length before ≡ 1 → length now ≡ length before →
     HasCrewCause (length before) (record { site = 0; runners = map (λ (r : R). 0) before; sink = sink_before }) (record { site = 0; runners = map (λ (r : R). 0) now; sink = sink_now }) status →
-    HasCountedCause (of_one 0 0 sink_before) (of_one 0 0 sink_now) status
+    HasAloneCause (of_one 0 0 sink_before) (of_one 0 0 sink_now) status
 demo_counts (one ∷ []) (same ∷ []) sink_before sink_now status alone many cause = cause.alone refl
 demo_counts (one ∷ []) [] sink_before sink_now status alone many cause = absurd (omega (arith, many))
 demo_counts (one ∷ []) (same ∷ other ∷ others) sink_before sink_now status alone many cause = absurd (omega (arith, many))

@@ -15,15 +15,16 @@ use Rattle.tup_promise.specs.declared.stop.Stop.TheVariants.{Outside}
 use Rattle.tup_compare.proofs.Held.{holds_itself}
 use Rattle.tup_top.specs.Lines.{last_line, begun_line, compared_line}
 use Rattle.tup_top.specs.Order.{Wanted}
-use Rattle.tup_top.specs.Printed.{Printed, PrintsBegun, PrintsUpdate, demo_world}
+use Rattle.tup_top.specs.Printed.{Printed, PrintsBegun, PrintsUpdate, demo_world, hears_none}
 use Rattle.tup_top.specs.Promise.{Counts, FindsOut, ForUpdate, ForInit, ForTodo, ForVerify, HasPlainCause, Logs, NothingDone, OpensStore}
 use Rattle.tup_top.specs.declared.order.Order.TheVariants.{Init, Upd, Todo, Verify, Demo}
+use Rattle.tup_top.specs.declared.status.Status.{Status}
 use Rattle.tup_top.specs.declared.status.Status.TheVariants.{Usage, Memory}
 use Rattle.tup_top.proofs.Causes.{logs_nothing, nothing_logged, opens_so, prints_nothing, prints_no_update, told_nothing}
 
 -- nothing was done
 pub idle : (wanted : Wanted) (w : World) → NothingDone wanted w w
-idle (Ok (Upd program keep_going quiet verbose explain jobs)) w = tt
+idle (Ok (Upd program keep_going quiet verbose explain jobs log)) w = tt
 idle (Ok Init) w = inl refl
 idle (Ok Todo) w = refl
 idle (Ok Verify) w = holds_itself w
@@ -32,7 +33,7 @@ idle (Err place) w = refl
 
 -- what an update promises where there was no memory
 pub memory_for_update : (wanted : Wanted) (P : Option Stop → Type 0) → P (Some (Outside NoMemory)) → ForUpdate wanted Memory P
-memory_for_update (Ok (Upd program keep_going quiet verbose explain jobs)) P p = p
+memory_for_update (Ok (Upd program keep_going quiet verbose explain jobs log)) P p = p
 memory_for_update (Ok Init) P p = tt
 memory_for_update (Ok Todo) P p = tt
 memory_for_update (Ok Verify) P p = tt
@@ -41,7 +42,7 @@ memory_for_update (Err place) P p = tt
 
 -- and what finding out what it would do promises
 pub memory_for_todo : (wanted : Wanted) (P : Option Stop → Type 0) → P (Some (Outside NoMemory)) → ForTodo wanted Memory P
-memory_for_todo (Ok (Upd program keep_going quiet verbose explain jobs)) P p = tt
+memory_for_todo (Ok (Upd program keep_going quiet verbose explain jobs log)) P p = tt
 memory_for_todo (Ok Init) P p = tt
 memory_for_todo (Ok Todo) P p = p
 memory_for_todo (Ok Verify) P p = tt
@@ -50,7 +51,7 @@ memory_for_todo (Err place) P p = tt
 
 -- and a comparison
 pub memory_for_verify : (wanted : Wanted) (P : Result Compared Stop → Type 0) → P (Err (Outside NoMemory)) → ForVerify wanted Memory P
-memory_for_verify (Ok (Upd program keep_going quiet verbose explain jobs)) P p = tt
+memory_for_verify (Ok (Upd program keep_going quiet verbose explain jobs log)) P p = tt
 memory_for_verify (Ok Init) P p = tt
 memory_for_verify (Ok Todo) P p = tt
 memory_for_verify (Ok Verify) P p = p
@@ -59,7 +60,7 @@ memory_for_verify (Err place) P p = tt
 
 -- and a beginning
 pub memory_for_init : (wanted : Wanted) (P : Result Begun GraphFault → Type 0) → P (Err graph.Memory) → ForInit wanted Memory P
-memory_for_init (Ok (Upd program keep_going quiet verbose explain jobs)) P p = tt
+memory_for_init (Ok (Upd program keep_going quiet verbose explain jobs log)) P p = tt
 memory_for_init (Ok Init) P p = p
 memory_for_init (Ok Todo) P p = tt
 memory_for_init (Ok Verify) P p = tt
@@ -68,7 +69,7 @@ memory_for_init (Err place) P p = tt
 
 -- nothing failed
 pub memory_causes : (wanted : Wanted) (count : Counts) → HasPlainCause wanted count count Memory
-memory_causes (Ok (Upd program keep_going quiet verbose explain jobs)) count = record { any = tt; alone = λ _. inl (refl, refl) }
+memory_causes (Ok (Upd program keep_going quiet verbose explain jobs log)) count = record { any = tt; alone = λ _. inl (refl, refl) }
 memory_causes (Ok Init) count = (refl, inl refl)
 memory_causes (Ok Todo) count = inl (refl, refl)
 memory_causes (Ok Verify) count = inl (refl, refl)
@@ -80,31 +81,31 @@ begun_nothing : (count : ℕ) (held : List ℕ) → PrintsBegun count count held
 begun_nothing count held = record { begun = Err graph.Memory; ends = inl refl; prints = prints_nothing Memory (begun_line Memory) count count held }
 
 -- and what is printed of an update then
-pub no_prints : (jobs : ℕ) (site keep_going explain : Bool) (says : Bool → Log → List (Option (List ℕ)) → Type 0) → ((explain : Bool) → says explain nothing_logged []) → (w : World) (ran : List RuleName) (count : ℕ) (held : List ℕ) → ran ≡ [] →
-    PrintsUpdate jobs site keep_going (says explain) w w ran count count held held Memory
-no_prints jobs site keep_going explain says unsaid w ran count held none =
-    subst (λ (l : List RuleName). PrintsUpdate jobs site keep_going (says explain) w w l count count held held Memory) (sym none)
-    (prints_no_update jobs site keep_going (says explain) (unsaid explain) w count count held)
+pub no_prints : (jobs : ℕ) (site keep_going explain : Bool) (says : Bool → Log → List (Option (List ℕ)) → Type 0) → ((explain : Bool) → says explain nothing_logged []) → (hears : Log → Status → Status → Type 0) → hears nothing_logged Memory Memory → (w : World) (ran : List RuleName) (count : ℕ) (held : List ℕ) → ran ≡ [] →
+    PrintsUpdate jobs site keep_going (says explain) hears w w ran count count held held Memory
+no_prints jobs site keep_going explain says unsaid hears unheard w ran count held none =
+    subst (λ (l : List RuleName). PrintsUpdate jobs site keep_going (says explain) hears w w l count count held held Memory) (sym none)
+    (prints_no_update jobs site keep_going (says explain) (unsaid explain) hears unheard w count count held)
 
 -- and of every call
-pub memory_prints : (jobs : ℕ) (site runner : Bool) (kept : Type 0) (says : Bool → Log → List (Option (List ℕ)) → Type 0) → ((explain : Bool) → says explain nothing_logged []) → (wanted : Wanted) (next : Next) (w : World) (ran : List RuleName) (count : ℕ) (held : List ℕ) → ran ≡ [] → Printed jobs site runner kept says wanted next w w ran count count held held Memory
-memory_prints jobs site runner kept says unsaid (Ok (Upd program keep_going quiet verbose explain number)) next w ran count held none =
-    no_prints jobs site keep_going explain says unsaid w ran count held none
-memory_prints jobs site runner kept says unsaid (Ok Init) next w ran count held none = begun_nothing count held
-memory_prints jobs site runner kept says unsaid (Ok Todo) next w ran count held none = record {
+pub memory_prints : (jobs : ℕ) (site runner : Bool) (kept : Type 0) (says : Bool → Log → List (Option (List ℕ)) → Type 0) → ((explain : Bool) → says explain nothing_logged []) → (hears : Log → Status → Status → Type 0) → hears nothing_logged Memory Memory → (wanted : Wanted) (next : Next) (w : World) (ran : List RuleName) (count : ℕ) (held : List ℕ) → ran ≡ [] → Printed jobs site runner kept says hears wanted next w w ran count count held held Memory
+memory_prints jobs site runner kept says unsaid hears unheard (Ok (Upd program keep_going quiet verbose explain number log)) next w ran count held none =
+    no_prints jobs site keep_going explain says unsaid hears unheard w ran count held none
+memory_prints jobs site runner kept says unsaid hears unheard (Ok Init) next w ran count held none = begun_nothing count held
+memory_prints jobs site runner kept says unsaid hears unheard (Ok Todo) next w ran count held none = record {
   todo = Err (Outside NoMemory);
   lists = λ _. tt;
   ends = inl refl;
   prints = prints_nothing Memory (last_line Memory) count count held;
 }
-memory_prints jobs site runner kept says unsaid (Ok Verify) next w ran count held none = record {
+memory_prints jobs site runner kept says unsaid hears unheard (Ok Verify) next w ran count held none = record {
   compared = Err (Outside NoMemory);
   has = λ _ _. tt;
   ends = inl refl;
   prints = prints_nothing Memory (compared_line Memory) count count held;
 }
-memory_prints jobs site runner kept says unsaid (Ok Demo) next w ran count held none = ([], demo_world, prints_no_update 1 true false (λ log chains. chains ≡ []) refl demo_world count count held)
-memory_prints jobs site runner kept says unsaid (Err place) next w ran count held none = prints_nothing (Usage place) (last_line (Usage place)) count count held
+memory_prints jobs site runner kept says unsaid hears unheard (Ok Demo) next w ran count held none = ([], demo_world, prints_no_update 1 true false (λ log chains. chains ≡ []) refl hears_none (inl refl) demo_world count count held)
+memory_prints jobs site runner kept says unsaid hears unheard (Err place) next w ran count held none = prints_nothing (Usage place) (last_line (Usage place)) count count held
 
 -- what its log says
 pub no_logs : (jobs : ℕ) (keep_going : Bool) (ran : List RuleName) → ran ≡ [] → Logs jobs keep_going ran (Some (Outside NoMemory))

@@ -1,5 +1,6 @@
 pub mod Told
 pub mod Causes
+pub mod Reported
 pub mod Idle
 pub mod Success
 pub mod Verified

@@ -32,6 +32,8 @@ module _ (before now : ℕ) (fault : GraphFault) (status answer : Status) (memor
     demo_world,
     record {
       told = told_nothing 1 true false (λ log chains. chains ≡ []) refl demo_world;
+      status = Memory;
+      heard = inl refl;
       ends = ends_so;
       prints = subst (λ (s : Status). Prints s (last_line s) before now held grown answer) it_is prints;
     },

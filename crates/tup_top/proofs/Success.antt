@@ -13,7 +13,7 @@ use Rattle.tup_promise.specs.Cause.{OneRose}
 use Rattle.tup_top.specs.Promise.{HasComparedCause, Counts, NothingFailed, CanBeCompared, IsComparisonOrMemory}
 use Rattle.tup_top.specs.declared.status.What.TheVariants.{Files, FileSize, Commands, Links, StoreSize}
 use Rattle.tup_top.specs.declared.status.Status.{Status}
-use Rattle.tup_top.specs.declared.status.Status.TheVariants.{Done, Command, IllegalRead, IllegalWrite, Unwritten, TooManyReads, Usage, NotInit, AlreadyInit, BadStore, Parse, CircularDirs, CircularCommands, NoSuchGroup, UserFile, SiteFault, RunFault, SinkFault, Limit, Memory, Differs}
+use Rattle.tup_top.specs.declared.status.Status.TheVariants.{Done, Command, IllegalRead, IllegalWrite, Unwritten, TooManyReads, Usage, NotInit, AlreadyInit, BadStore, Parse, CircularDirs, CircularCommands, NoSuchGroup, UserFile, SiteFault, RunFault, SinkFault, TellFault, Limit, Memory, Differs}
 
 pub not_rose : (before now : ℕ) → now ≡ before → now < 2 ^ 64 - 1 → Rose before now → ⊥
 not_rose before now same counts (inl more) = omega (arith, same, more)
@@ -51,6 +51,7 @@ compares_so next w before now (UserFile path) cause counted can fine = absurd ca
 compares_so next w before now SiteFault cause counted can fine = not_rose before.site now.site fine.site fine.site_counts counted.0
 compares_so next w before now RunFault cause counted can fine = no_runner_rose before now fine counted.1
 compares_so next w before now SinkFault cause counted can fine = not_rose before.sink now.sink fine.sink fine.sink_counts counted.1
+compares_so next w before now TellFault cause counted can fine = absurd counted
 compares_so next w before now (Limit FileSize number) (count, passed, large) counted can fine = no_large w count can large passed
 compares_so next w before now (Limit Files number) (count, passed, refused) counted can fine = absurd (can.sources_read (sources.TooManyFiles count) refused)
 compares_so next w before now (Limit Commands number) (count, passed, refused) counted can fine = absurd (can.sources_read (sources.TooManyCommands count) refused)

@@ -18,7 +18,7 @@ use Rattle.tup_top.specs.Printed.{IsDone, Ends, Prints, PrintsComparison}
 use Rattle.tup_top.specs.Promise.{Counts, OneFailedAtMost, HasCountedCause, HasComparedCause}
 use Rattle.tup_top.specs.Status.{status_of_stop, status_of_compared, IfCame, IfCompared, of_stop}
 use Rattle.tup_top.specs.declared.status.Status.{Status}
-use Rattle.tup_top.specs.declared.status.Status.TheVariants.{Done, Command, IllegalRead, IllegalWrite, Unwritten, TooManyReads, Usage, NotInit, AlreadyInit, BadStore, Parse, CircularDirs, CircularCommands, NoSuchGroup, UserFile, SiteFault, RunFault, SinkFault, Limit, Memory, Differs}
+use Rattle.tup_top.specs.declared.status.Status.TheVariants.{Done, Command, IllegalRead, IllegalWrite, Unwritten, TooManyReads, Usage, NotInit, AlreadyInit, BadStore, Parse, CircularDirs, CircularCommands, NoSuchGroup, UserFile, SiteFault, RunFault, SinkFault, TellFault, Limit, Memory, Differs}
 use Rattle.tup_top.proofs.Causes.{came, came_on, done_is_none, failed_once, of_one, shared_cause, steady, counted_of_stop}
 
 -- the log of nothing
@@ -45,6 +45,7 @@ same_came P (UserFile path) p = p
 same_came P SiteFault p = p
 same_came P RunFault p = p
 same_came P SinkFault p = p
+same_came P TellFault p = p
 same_came P (Limit what number) p = p
 same_came P Memory p = p
 same_came P (Differs path) p = absurd p
@@ -70,6 +71,7 @@ compared_on P Q on (UserFile path) p = came_on (λ stopped. P (of_stop stopped))
 compared_on P Q on SiteFault p = came_on (λ stopped. P (of_stop stopped)) (λ stopped. Q (of_stop stopped)) (λ stopped. on (of_stop stopped)) SiteFault p
 compared_on P Q on RunFault p = came_on (λ stopped. P (of_stop stopped)) (λ stopped. Q (of_stop stopped)) (λ stopped. on (of_stop stopped)) RunFault p
 compared_on P Q on SinkFault p = came_on (λ stopped. P (of_stop stopped)) (λ stopped. Q (of_stop stopped)) (λ stopped. on (of_stop stopped)) SinkFault p
+compared_on P Q on TellFault p = came_on (λ stopped. P (of_stop stopped)) (λ stopped. Q (of_stop stopped)) (λ stopped. on (of_stop stopped)) TellFault p
 compared_on P Q on (Limit what number) p = came_on (λ stopped. P (of_stop stopped)) (λ stopped. Q (of_stop stopped)) (λ stopped. on (of_stop stopped)) (Limit what number) p
 compared_on P Q on Memory p = came_on (λ stopped. P (of_stop stopped)) (λ stopped. Q (of_stop stopped)) (λ stopped. on (of_stop stopped)) Memory p
 
@@ -131,6 +133,7 @@ cause_of_compared before now (UserFile path) cause = cause
 cause_of_compared before now SiteFault cause = cause
 cause_of_compared before now RunFault cause = cause
 cause_of_compared before now SinkFault cause = cause
+cause_of_compared before now TellFault cause = cause
 cause_of_compared before now (Limit what number) cause = cause
 cause_of_compared before now Memory cause = cause
 cause_of_compared before now (Differs path) cause = absurd cause

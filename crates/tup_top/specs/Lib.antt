@@ -3,4 +3,5 @@ pub mod Status
 pub mod Lines
 pub mod Crew
 pub mod Printed
+pub mod Telling
 pub mod Promise

@@ -17,7 +17,7 @@ use Rattle.tup_todo.specs.declared.listing.DueRule.{DueRule}
 use Rattle.tup_todo.specs.declared.todo.Todo.{Todo}
 use Rattle.tup_top.specs.Status.{status_of_todo}
 use Rattle.tup_top.specs.declared.status.Status.{Status}
-use Rattle.tup_top.specs.declared.status.Status.TheVariants.{Done, Command, IllegalRead, IllegalWrite, Unwritten, TooManyReads, Usage, NotInit, AlreadyInit, BadStore, Parse, CircularDirs, CircularCommands, NoSuchGroup, UserFile, SiteFault, RunFault, SinkFault, Limit, Memory, Differs}
+use Rattle.tup_top.specs.declared.status.Status.TheVariants.{Done, Command, IllegalRead, IllegalWrite, Unwritten, TooManyReads, Usage, NotInit, AlreadyInit, BadStore, Parse, CircularDirs, CircularCommands, NoSuchGroup, UserFile, SiteFault, RunFault, SinkFault, TellFault, Limit, Memory, Differs}
 use Rattle.tup_top.specs.declared.status.What.{What}
 use Rattle.tup_top.specs.declared.status.What.TheVariants.{Files, FileSize, Commands, Links, StoreSize}
 
@@ -132,6 +132,7 @@ status_text (UserFile path) = codes "fault: " ++ (show path ++ codes " was chang
 status_text SiteFault = codes "fault: the file tree or the store failed"
 status_text RunFault = codes "fault: the runner failed"
 status_text SinkFault = codes "fault: the output failed"
+status_text TellFault = codes "fault: a reporter failed"
 status_text (Limit what number) = codes "fault: limit " ++ (what_text what ++ (codes ", " ++ decimal number))
 status_text Memory = codes "fault: no memory"
 status_text (Differs path) = codes "differs: " ++ show path

@@ -18,7 +18,7 @@ Wanted = Result Order ℕ
 
 -- the words ask for an update
 abbrev pub IsUpdate : Wanted → Type 0
-IsUpdate (Ok (Upd program keep_going quiet verbose explain jobs)) = ⊤
+IsUpdate (Ok (Upd program keep_going quiet verbose explain jobs log)) = ⊤
 IsUpdate (Ok Init) = ⊥
 IsUpdate (Ok Todo) = ⊥
 IsUpdate (Ok Verify) = ⊥
@@ -27,7 +27,7 @@ IsUpdate (Err place) = ⊥
 
 -- the words ask for an update, or for what it would do: both bring the store up to date with the files
 abbrev pub BringsUp : Wanted → Type 0
-BringsUp (Ok (Upd program keep_going quiet verbose explain jobs)) = ⊤
+BringsUp (Ok (Upd program keep_going quiet verbose explain jobs log)) = ⊤
 BringsUp (Ok Init) = ⊥
 BringsUp (Ok Todo) = ⊤
 BringsUp (Ok Verify) = ⊥
@@ -36,7 +36,7 @@ BringsUp (Err place) = ⊥
 
 -- the words ask for a comparison
 abbrev pub IsVerify : Wanted → Type 0
-IsVerify (Ok (Upd program keep_going quiet verbose explain jobs)) = ⊥
+IsVerify (Ok (Upd program keep_going quiet verbose explain jobs log)) = ⊥
 IsVerify (Ok Init) = ⊥
 IsVerify (Ok Todo) = ⊥
 IsVerify (Ok Verify) = ⊤
@@ -45,7 +45,7 @@ IsVerify (Err place) = ⊥
 
 -- the words ask that a project begins
 abbrev pub IsInit : Wanted → Type 0
-IsInit (Ok (Upd program keep_going quiet verbose explain jobs)) = ⊥
+IsInit (Ok (Upd program keep_going quiet verbose explain jobs log)) = ⊥
 IsInit (Ok Init) = ⊤
 IsInit (Ok Todo) = ⊥
 IsInit (Ok Verify) = ⊥
@@ -54,7 +54,7 @@ IsInit (Err place) = ⊥
 
 -- the words ask for an update or a comparison, which have commands run
 abbrev pub HasCommandsRun : Wanted → Type 0
-HasCommandsRun (Ok (Upd program keep_going quiet verbose explain jobs)) = ⊤
+HasCommandsRun (Ok (Upd program keep_going quiet verbose explain jobs log)) = ⊤
 HasCommandsRun (Ok Init) = ⊥
 HasCommandsRun (Ok Todo) = ⊥
 HasCommandsRun (Ok Verify) = ⊤
@@ -63,7 +63,7 @@ HasCommandsRun (Err place) = ⊥
 
 -- whether what is asked for goes on after a bad verdict
 abbrev pub goes_on : Wanted → Bool
-goes_on (Ok (Upd program keep_going quiet verbose explain jobs)) = keep_going
+goes_on (Ok (Upd program keep_going quiet verbose explain jobs log)) = keep_going
 goes_on (Ok Init) = false
 goes_on (Ok Todo) = false
 goes_on (Ok Verify) = false
@@ -77,7 +77,7 @@ used_of (Some jobs) many = max (min jobs many) 1
 
 -- how many of so many runners what is asked for uses
 abbrev pub used : Wanted → ℕ → ℕ
-used (Ok (Upd program keep_going quiet verbose explain jobs)) many = used_of jobs many
+used (Ok (Upd program keep_going quiet verbose explain jobs log)) many = used_of jobs many
 used (Ok Init) many = 1
 used (Ok Todo) many = 1
 used (Ok Verify) many = 1
@@ -99,7 +99,7 @@ alone place order (word ∷ words) = Err place
 
 -- the options of no words
 abbrev pub no_options : Options
-no_options = record { program = NotNamed; keep_going = false; quiet = false; verbose = false; explain = false; jobs = spoken.NotSaid }
+no_options = record { program = NotNamed; keep_going = false; quiet = false; verbose = false; explain = false; jobs = spoken.NotSaid; log = false }
 
 -- whether the next word names the program
 abbrev pub is_awaited : Program → Bool
@@ -118,6 +118,10 @@ going_on options = if options.keep_going then None else Some (record options { k
 -- options and that it says why each rule was run; none where they say so
 abbrev pub explaining : Options → Option Options
 explaining options = if options.explain then None else Some (record options { explain = true })
+
+-- options and that it logs what it did; none where they say so
+abbrev pub logging : Options → Option Options
+logging options = if options.log then None else Some (record options { log = true })
 
 -- options and what is shown; none where they say anything of that
 abbrev pub showing : Bool → Bool → Options → Option Options
@@ -161,6 +165,7 @@ with_option name options =
     if bytes_eq name (codes "--proc") then awaiting_program options
     else if bytes_eq name (codes "-k") then going_on options
     else if bytes_eq name (codes "--explain") then explaining options
+    else if bytes_eq name (codes "--log") then logging options
     else if bytes_eq name (codes "--quiet") then showing true false options
     else if bytes_eq name (codes "--verbose") then showing false true options
     else if bytes_eq name (codes "-j") then awaiting_jobs options
@@ -189,7 +194,7 @@ program_named place (Named program) = Ok (Some program)
 abbrev pub ended : ℕ → Options → Wanted
 ended place options = elim (program_named place options.program) [
   | Err missing ↦ Err missing
-  | Ok program ↦ elim (jobs_said place options.jobs) [ Err missing ↦ Err missing | Ok jobs ↦ Ok (Upd program options.keep_going options.quiet options.verbose options.explain jobs) ]
+  | Ok program ↦ elim (jobs_said place options.jobs) [ Err missing ↦ Err missing | Ok jobs ↦ Ok (Upd program options.keep_going options.quiet options.verbose options.explain jobs options.log) ]
 ]
 
 -- the update that options ask for, and those of further words, the first of which stands at a place
@@ -215,7 +220,7 @@ words_of_jobs (spoken.Said number) = 2
 
 -- how many words made these options, at most
 abbrev pub count : Options → ℕ
-count options = words_of_program options.program + one_if options.keep_going + one_if options.quiet + one_if options.verbose + one_if options.explain + words_of_jobs options.jobs
+count options = words_of_program options.program + one_if options.keep_going + one_if options.quiet + one_if options.verbose + one_if options.explain + words_of_jobs options.jobs + one_if options.log
 
 -- no words mean an update, and so do options without an order
 abbrev pub order : List Word → Wanted

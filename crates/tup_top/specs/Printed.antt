@@ -25,7 +25,7 @@ use Rattle.tup_top.specs.Order.{Wanted}
 use Rattle.tup_top.specs.Status.{status_of, status_of_begun, status_of_compared, status_of_todo}
 use Rattle.tup_top.specs.declared.order.Order.TheVariants.{Init, Upd, Todo, Verify, Demo}
 use Rattle.tup_top.specs.declared.status.Status.{Status}
-use Rattle.tup_top.specs.declared.status.Status.TheVariants.{Done, Usage, SinkFault, Memory}
+use Rattle.tup_top.specs.declared.status.Status.TheVariants.{Done, Usage, SinkFault, TellFault, Memory}
 
 -- all was done, and all was told
 abbrev pub IsDone : Status → Type 0
@@ -36,6 +36,10 @@ IsDone other = ⊥
 -- that the sink failed, by its own count
 abbrev pub Ends : ℕ → ℕ → Status → Status → Type 0
 Ends before now status answer = (answer ≡ status) ⊎ (answer ≡ Memory) ⊎ ((answer ≡ SinkFault) × IsDone status × Rose before now)
+
+-- the same of an update whose reporters were told before: or in the place of a Done that one of them failed
+abbrev pub EndsTold : ℕ → ℕ → Status → Status → Type 0
+EndsTold before now status answer = Ends before now status answer ⊎ ((answer ≡ TellFault) × IsDone status)
 
 -- The sink has grown by this text, which ends with the line of a status, or by a front of it where there was no memory or the
 -- sink's count rose; after Done all of it is there, and where memory was wanting in the place of that status nothing is.
@@ -63,11 +67,18 @@ pub record Told (jobs : ℕ) (site keep_going : Bool) (says : Log → List (Opti
   pub logged : IsLogged jobs keep_going log stopped
   pub unopened : IsTrue site → Unopened old new log stopped
 
--- the lines of such an update
-pub record PrintsUpdate (jobs : ℕ) (site keep_going : Bool) (says : Log → List (Option (List ℕ)) → Type 0) (world left : World) (ran : List RuleName) (before now : ℕ) (old new : List ℕ) (answer : Status) : Type 0 where
+-- The lines of such an update. They end with a status of which this is so by the log and by what the update came to: reporters may
+-- have failed.
+pub record PrintsUpdate (jobs : ℕ) (site keep_going : Bool) (says : Log → List (Option (List ℕ)) → Type 0) (hears : Log → Status → Status → Type 0) (world left : World) (ran : List RuleName) (before now : ℕ) (old new : List ℕ) (answer : Status) : Type 0 where
   pub told : Told jobs site keep_going says world left ran
-  pub ends : Ends before now (status_of told.log told.stopped) answer
-  pub prints : Prints (status_of told.log told.stopped) (lines told.log told.because (status_of told.log told.stopped)) before now old new answer
+  pub status : Status
+  pub heard : hears told.log (status_of told.log told.stopped) status
+  pub ends : Ends before now status answer
+  pub prints : Prints status (lines told.log told.because status) before now old new answer
+
+-- where there are no reporters
+abbrev pub hears_none : Log → Status → Status → Type 0
+hears_none log came status = (status ≡ came) ⊎ (status ≡ Memory)
 
 -- the line of a comparison of this world
 pub record PrintsComparison (site runner : Bool) (next : Next) (world : World) (before now : ℕ) (old new : List ℕ) (answer : Status) : Type 0 where
@@ -95,14 +106,14 @@ demo_world = record { tree = demo_tree; store = header ++ 0 ∷ [] }
 
 -- the lines of the update that a demo shows, over a site of its own
 abbrev pub PrintsDemo : ℕ → ℕ → List ℕ → List ℕ → Status → Type 0
-PrintsDemo before now old new answer = (ran : List RuleName) × (left : World) × PrintsUpdate 1 true false (λ log chains. chains ≡ []) demo_world left ran before now old new answer
+PrintsDemo before now old new answer = (ran : List RuleName) × (left : World) × PrintsUpdate 1 true false (λ log chains. chains ≡ []) hears_none demo_world left ran before now old new answer
 
 -- the lines of what was asked for: of the update, of what it would do where the site is kept, of the beginning, of the comparison, of
 -- the demo's update, or the line of the refusal. The first number says by how many runners an update goes.
-abbrev pub Printed : ℕ → Bool → Bool → Type 0 → (Bool → Log → List (Option (List ℕ)) → Type 0) → Wanted → Next → World → World → List RuleName → ℕ → ℕ → List ℕ → List ℕ → Status → Type 0
-Printed jobs site runner kept says (Ok (Upd program keep_going quiet verbose explain number)) next world left ran before now old new answer = PrintsUpdate jobs site keep_going (says explain) world left ran before now old new answer
-Printed jobs site runner kept says (Ok Init) next world left ran before now old new answer = PrintsBegun before now old new answer
-Printed jobs site runner kept says (Ok Todo) next world left ran before now old new answer = PrintsTodo kept world left before now old new answer
-Printed jobs site runner kept says (Ok Verify) next world left ran before now old new answer = PrintsComparison site runner next world before now old new answer
-Printed jobs site runner kept says (Ok Demo) next world left ran before now old new answer = PrintsDemo before now old new answer
-Printed jobs site runner kept says (Err place) next world left ran before now old new answer = Prints (Usage place) (last_line (Usage place)) before now old new answer
+abbrev pub Printed : ℕ → Bool → Bool → Type 0 → (Bool → Log → List (Option (List ℕ)) → Type 0) → (Log → Status → Status → Type 0) → Wanted → Next → World → World → List RuleName → ℕ → ℕ → List ℕ → List ℕ → Status → Type 0
+Printed jobs site runner kept says hears (Ok (Upd program keep_going quiet verbose explain number log)) next world left ran before now old new answer = PrintsUpdate jobs site keep_going (says explain) hears world left ran before now old new answer
+Printed jobs site runner kept says hears (Ok Init) next world left ran before now old new answer = PrintsBegun before now old new answer
+Printed jobs site runner kept says hears (Ok Todo) next world left ran before now old new answer = PrintsTodo kept world left before now old new answer
+Printed jobs site runner kept says hears (Ok Verify) next world left ran before now old new answer = PrintsComparison site runner next world before now old new answer
+Printed jobs site runner kept says hears (Ok Demo) next world left ran before now old new answer = PrintsDemo before now old new answer
+Printed jobs site runner kept says hears (Err place) next world left ran before now old new answer = Prints (Usage place) (last_line (Usage place)) before now old new answer

@@ -29,11 +29,11 @@ use Rattle.tup_top.specs.Status.{most, IfCame, IfCompared, IfBegan}
 use Rattle.tup_top.specs.Order.{Wanted, IsVerify, IsInit, used_of}
 use Rattle.tup_top.specs.declared.order.Order.TheVariants.{Init, Upd, Todo, Verify, Demo}
 use Rattle.tup_top.specs.declared.status.Status.{Status}
-use Rattle.tup_top.specs.declared.status.Status.TheVariants.{Done, Command, IllegalRead, IllegalWrite, Unwritten, TooManyReads, Usage, NotInit, AlreadyInit, BadStore, SiteFault, RunFault, SinkFault, Limit, Memory, Differs}
+use Rattle.tup_top.specs.declared.status.Status.TheVariants.{Done, Command, IllegalRead, IllegalWrite, Unwritten, TooManyReads, Usage, NotInit, AlreadyInit, BadStore, SiteFault, RunFault, SinkFault, TellFault, Limit, Memory, Differs}
 
 -- a promise of an update, of what the update came to
 abbrev pub ForUpdate : Wanted → Status → (Option Stop → Type 0) → Type 0
-ForUpdate (Ok (Upd program keep_going quiet verbose explain jobs)) status promise = IfCame status promise
+ForUpdate (Ok (Upd program keep_going quiet verbose explain jobs log)) status promise = IfCame status promise
 ForUpdate (Ok Init) status promise = ⊤
 ForUpdate (Ok Todo) status promise = ⊤
 ForUpdate (Ok Verify) status promise = ⊤
@@ -42,7 +42,7 @@ ForUpdate (Err place) status promise = ⊤
 
 -- a promise of what finding out what an update would do came to
 abbrev pub ForTodo : Wanted → Status → (Option Stop → Type 0) → Type 0
-ForTodo (Ok (Upd program keep_going quiet verbose explain jobs)) status promise = ⊤
+ForTodo (Ok (Upd program keep_going quiet verbose explain jobs log)) status promise = ⊤
 ForTodo (Ok Init) status promise = ⊤
 ForTodo (Ok Todo) status promise = IfCame status promise
 ForTodo (Ok Verify) status promise = ⊤
@@ -51,7 +51,7 @@ ForTodo (Err place) status promise = ⊤
 
 -- a promise of a comparison, of what it came to
 abbrev pub ForVerify : Wanted → Status → (Result Compared Stop → Type 0) → Type 0
-ForVerify (Ok (Upd program keep_going quiet verbose explain jobs)) status promise = ⊤
+ForVerify (Ok (Upd program keep_going quiet verbose explain jobs log)) status promise = ⊤
 ForVerify (Ok Init) status promise = ⊤
 ForVerify (Ok Todo) status promise = ⊤
 ForVerify (Ok Verify) status promise = IfCompared status promise
@@ -60,7 +60,7 @@ ForVerify (Err place) status promise = ⊤
 
 -- a promise of a beginning, of how the project began
 abbrev pub ForInit : Wanted → Status → (Result Begun GraphFault → Type 0) → Type 0
-ForInit (Ok (Upd program keep_going quiet verbose explain jobs)) status promise = ⊤
+ForInit (Ok (Upd program keep_going quiet verbose explain jobs log)) status promise = ⊤
 ForInit (Ok Init) status promise = IfBegan status promise
 ForInit (Ok Todo) status promise = ⊤
 ForInit (Ok Verify) status promise = ⊤
@@ -75,7 +75,7 @@ Lasts left now begun = OnOk begun (PinsStore left now)
 -- where there was none; finding out what an update would do leaves all files; a comparison leaves a world that holds the same; and
 -- any other call the world as it was. None touches a file.
 abbrev pub NothingDone : Wanted → World → World → Type 0
-NothingDone (Ok (Upd program keep_going quiet verbose explain jobs)) old new = ⊤
+NothingDone (Ok (Upd program keep_going quiet verbose explain jobs log)) old new = ⊤
 NothingDone (Ok Init) old new = (new ≡ old) ⊎ BeginStep old old new
 NothingDone (Ok Todo) old new = TreeStays old new
 NothingDone (Ok Verify) old new = HoldsOn old new
@@ -158,6 +158,7 @@ HasCountedCause before now (Limit what number) = AreSteady before now × (number
 HasCountedCause before now (Usage place) = ⊥
 HasCountedCause before now AlreadyInit = ⊥
 HasCountedCause before now (Differs path) = ⊥
+HasCountedCause before now TellFault = ⊥
 HasCountedCause before now Memory = OneFailedAtMost before now
 HasCountedCause before now other = AreSteady before now
 
@@ -180,10 +181,15 @@ HasSharedCause before now (Differs path) = ⊥
 HasSharedCause before now Memory = ⊤
 HasSharedCause before now other = AreSteady before now
 
+-- the causes of an update by one runner, of which a reporter may have failed; nothing else has then
+abbrev pub HasAloneCause : Counts → Counts → Status → Type 0
+HasAloneCause before now TellFault = AreSteady before now
+HasAloneCause before now other = HasCountedCause before now other
+
 -- the causes of an update by so many runners: for one, no count rises unseen
 pub record HasCrewCause (jobs : ℕ) (before now : Counts) (status : Status) : Type 0 where
   pub any : HasSharedCause before now status
-  pub alone : jobs ≡ 1 → HasCountedCause before now status
+  pub alone : jobs ≡ 1 → HasAloneCause before now status
 
 -- the same of a comparison, which may tell a difference
 abbrev pub HasComparedCause : Counts → Counts → Status → Type 0
@@ -201,6 +207,7 @@ HasDemoCause before now AlreadyInit = ⊥
 HasDemoCause before now (BadStore offset) = ⊥
 HasDemoCause before now SiteFault = ⊥
 HasDemoCause before now RunFault = ⊥
+HasDemoCause before now TellFault = ⊥
 HasDemoCause before now (Differs path) = ⊥
 HasDemoCause before now other = ⊤
 
@@ -222,7 +229,7 @@ IsRefusal wrong other = ⊥
 
 -- the causes of every order
 abbrev pub HasPlainCause : Wanted → Counts → Counts → Status → Type 0
-HasPlainCause (Ok (Upd program keep_going quiet verbose explain jobs)) before now status = HasCrewCause (used_of jobs (length before.runners)) before now status
+HasPlainCause (Ok (Upd program keep_going quiet verbose explain jobs log)) before now status = HasCrewCause (used_of jobs (length before.runners)) before now status
 HasPlainCause (Ok Init) before now status = (now.runners ≡ before.runners) × HasBegunCause before.site now.site before.sink now.sink status
 HasPlainCause (Ok Todo) before now status = HasCountedCause before now status
 HasPlainCause (Ok Verify) before now status = HasComparedCause before now status

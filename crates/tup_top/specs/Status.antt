@@ -1,5 +1,5 @@
 -- How an order ended: the exit numbers (own), what stops an update as a status, and what a status says of an update.
-use Rattle.std.specs.Prelude.{ℕ, ◌-◌, ◌^◌, ◌<◌, length, min, Option, None, Some, Result, Ok, Err}
+use Rattle.std.specs.Prelude.{ℕ, Bool, true, false, ◌-◌, ◌^◌, ◌<◌, length, min, Option, None, Some, Result, Ok, Err}
 use Rattle.tup_stamp.specs.declared.Stamp.{Stamp}
 use Rattle.tup_site.specs.declared.fault.SiteFailed.{SiteFailed}
 use Rattle.tup_site.specs.declared.fault.SiteFailed.TheVariants.{Fault, TooLarge, Memory as NoMemory}
@@ -19,7 +19,7 @@ use Rattle.tup_promise.specs.declared.log.Log.{Log}
 use Rattle.tup_promise.specs.declared.stop.Stop.{Stop}
 use Rattle.tup_promise.specs.declared.stop.Stop.TheVariants.{NoStore, BadStore as StoreDamaged, Sources, UserFile as IsUsers, Bad, Run, Full, Outside}
 use Rattle.tup_top.specs.declared.status.Status.{Status}
-use Rattle.tup_top.specs.declared.status.Status.TheVariants.{Done, Command, IllegalRead, IllegalWrite, Unwritten, TooManyReads, Usage, NotInit, AlreadyInit, BadStore, Parse, CircularDirs, CircularCommands, NoSuchGroup, UserFile, SiteFault, RunFault, SinkFault, Limit, Memory, Differs}
+use Rattle.tup_top.specs.declared.status.Status.TheVariants.{Done, Command, IllegalRead, IllegalWrite, Unwritten, TooManyReads, Usage, NotInit, AlreadyInit, BadStore, Parse, CircularDirs, CircularCommands, NoSuchGroup, UserFile, SiteFault, RunFault, SinkFault, TellFault, Limit, Memory, Differs}
 use Rattle.tup_top.specs.declared.status.What.{What}
 use Rattle.tup_top.specs.declared.status.What.TheVariants.{Files, FileSize, Commands, Links, StoreSize}
 
@@ -43,6 +43,7 @@ exit_of (UserFile path) = 6
 exit_of SiteFault = 7
 exit_of RunFault = 8
 exit_of SinkFault = 9
+exit_of TellFault = 10
 exit_of (Limit what number) = 11
 exit_of Memory = 12
 exit_of (Differs path) = 13
@@ -121,6 +122,7 @@ Passed what stop promise = (count : ℕ) × (most what < count) × promise (Some
 abbrev pub IfCame : Status → (Option Stop → Type 0) → Type 0
 IfCame (Done read ran removed) promise = promise None
 IfCame SinkFault promise = promise None
+IfCame TellFault promise = promise None
 IfCame (Command rule status) promise = promise (Some (Bad rule (Failed status)))
 IfCame (IllegalRead rule text) promise = promise (Some (Bad rule (ReadsIllegally text)))
 IfCame (IllegalWrite rule text) promise = promise (Some (Bad rule (WritesIllegally text)))
@@ -178,3 +180,15 @@ IfBegan other promise = ⊥
 abbrev pub after_sink_fault : Status → Status
 after_sink_fault (Done read ran removed) = SinkFault
 after_sink_fault other = other
+
+-- the status of an update of which a reporter wasn't told all: its failure is answered where all else went well
+abbrev pub after_tell_fault : Status → Status
+after_tell_fault (Done read ran removed) = TellFault
+after_tell_fault other = other
+
+-- The status of an update that came to this one, once reporters were told: itself where all were told and none failed; where one
+-- failed, this fault in the place of a Done. Else there was no memory.
+abbrev pub after_telling : Bool → Bool → Status → Status
+after_telling true true came = came
+after_telling true false came = after_tell_fault came
+after_telling false none_failed came = Memory

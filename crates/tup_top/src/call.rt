@@ -1,5 +1,5 @@
 //! The top call.
-ghost use Rattle.std.specs.Prelude.{◌≡◌, IsTrue, drop, length, map, take};
+ghost use Rattle.std.specs.Prelude.{◌≡◌, [], IsTrue, drop, length, map, take};
 ghost use Rattle.std.specs.Result.{result_err};
 ghost use Rattle.tup_site.specs.Crash.{GoesOn};
 ghost use Rattle.tup_table.specs.Images.{OpenStep};
@@ -26,13 +26,15 @@ ghost use Rattle.tup_top.specs.Promise.{FindsOut, ForUpdate, ForInit, ForTodo, F
 ghost use Rattle.tup_top.specs.Promise.{Lasts, Logs, NothingDone};
 ghost use Rattle.tup_top.specs.Promise.{OnceDone, OpensStore, QuietStep, Spares};
 ghost use Rattle.tup_top.specs.Promise.{HasPlainCause, IsRefusal, Initializes, Compares, counts};
-ghost use Rattle.tup_top.specs.declared.status.Status.TheVariants.{Usage};
+ghost use Rattle.tup_top.specs.Telling.{Hears, TellsUpdate};
+ghost use Rattle.tup_top.specs.declared.status.Status.TheVariants.{TellFault, Usage};
 
 use crate::init::init;
 use crate::order::{Order, OrderFault, Word, order_of};
 use crate::parting::used;
 use crate::print::tell;
 use crate::status::Status;
+use crate::telling::nobody;
 use crate::todo::todo;
 use crate::update::{Ended, demo, update_by};
 use crate::verify::verify;
@@ -44,18 +46,20 @@ use tup_path::Items;
 use tup_rule::RuleName;
 use tup_runner::Runner;
 use tup_site::Site;
-use tup_tell::Sink;
+use tup_tell::{Reporter, Sink};
 use tup_update::Asked;
 
 /// How an order ended, with the site and the crew as it left them.
 #[derive(Drop)]
-pub struct Ran<S, R> {
+pub struct Ran<S, R, T> {
     pub status: Status,
     pub site: S,
     /// The runners, in their order.
     pub crew: Vec<R>,
     /// The rules that were begun, in order.
     pub ran: Items<RuleName>,
+    /// The reporters that failed, in their order.
+    pub failed: Vec<T>,
 }
 
 /// Carries out what the words ask for, and prints its lines to `out` in one write.
@@ -67,14 +71,18 @@ pub struct Ran<S, R> {
 /// beside them, and touches no file. `demo` shows an update of a small project in memory, and leaves
 /// site and crew alone. Other words are refused by the place of the first that can't stand there. A
 /// crew has 1 to 16 runners.
-pub fn tup<W: Threads + Wait + Sync, S: Site + Send, R: Runner + Send, K: Sink>(
+///
+/// An update tells the reporters what it did, each of them all events in their order, before it
+/// prints its lines. A reporter that fails is told no more and moves from `tellers` to `failed`.
+pub fn tup<W: Threads + Wait + Sync, S: Site + Send, R: Runner + Send, T: Reporter, K: Sink>(
     rt: &W,
     alloc: Global,
     words: &[Word],
     site: S,
     crew: Vec<R>,
+    tellers: &mut Vec<T>,
     out: &mut K,
-) -> Ran<S, R>
+) -> Ran<S, R, T>
     requires crew { IsCrew crew.items }
     // An update of a store that is empty, or damaged, tells so and does nothing; every other store
     // was read, unless the outside stopped that.
@@ -187,8 +195,21 @@ pub fn tup<W: Threads + Wait + Sync, S: Site + Send, R: Runner + Send, K: Sink>(
         let kept = IsTrue S.tells × IsKeptBySome S.Site.own site in
         let says = SaysWhyOf S.Site.own site in
         let jobs = used (order words.now) (length crew.items) in
-        Printed jobs S.tells R.tells kept says (order words.now) R.next old new result.ran before now
-        (K.held out.old) (K.held out.new) result.status }
+        let hears = Hears T.told T.faults tellers.old.items tellers.new.items result.failed.items in
+        Printed jobs S.tells R.tells kept says hears (order words.now) R.next old new result.ran
+        before now (K.held out.old) (K.held out.new) result.status }
+    // What reporters were told of an update, wherever its lines went. A reporter is blamed only
+    // where one failed, and without an update they are as they were.
+    ensures tells { IsUpdate (order words.now)
+        → let before = K.faults out.old in let now = K.faults out.new in
+        let old = S.world site in let new = S.world result.site in
+        let jobs = used (order words.now) (length crew.items) in
+        let hears = Hears T.told T.faults tellers.old.items tellers.new.items result.failed.items in
+        TellsUpdate jobs S.tells (goes_on (order words.now)) hears old new result.ran before now
+        result.status }
+    ensures blamed_reporter { result.status ≡ TellFault → result.failed.items ≡ [] → ⊥ }
+    ensures untold { (IsUpdate (order words.now) → ⊥) → tellers.new ≡ tellers.old }
+    ensures none_failed { (IsUpdate (order words.now) → ⊥) → result.failed.items ≡ [] }
 {
     flags_are_of_rules();
     match order_of(words) {
@@ -210,12 +231,14 @@ pub fn tup<W: Threads + Wait + Sync, S: Site + Send, R: Runner + Send, K: Sink>(
                 site,
                 crew,
                 ran,
-            } = update_by(rt, alloc, site, crew, jobs, asked, out);
+                failed,
+            } = update_by(rt, alloc, site, crew, jobs, asked, tellers, out);
             Ran {
                 status,
                 site,
                 crew,
                 ran,
+                failed,
             }
         }
         Ok(Order::Init) => {
@@ -226,6 +249,7 @@ pub fn tup<W: Threads + Wait + Sync, S: Site + Send, R: Runner + Send, K: Sink>(
                 site,
                 crew,
                 ran: Items::new(alloc),
+                failed: nobody(alloc),
             }
         }
         Ok(Order::Todo) => {
@@ -236,6 +260,7 @@ pub fn tup<W: Threads + Wait + Sync, S: Site + Send, R: Runner + Send, K: Sink>(
                 site,
                 crew,
                 ran: Items::new(alloc),
+                failed: nobody(alloc),
             }
         }
         Ok(Order::Verify) => {
@@ -247,6 +272,7 @@ pub fn tup<W: Threads + Wait + Sync, S: Site + Send, R: Runner + Send, K: Sink>(
                 site,
                 crew,
                 ran: Items::new(alloc),
+                failed: nobody(alloc),
             }
         }
         Ok(Order::Demo) => Ran {
@@ -254,18 +280,21 @@ pub fn tup<W: Threads + Wait + Sync, S: Site + Send, R: Runner + Send, K: Sink>(
             site,
             crew,
             ran: Items::new(alloc),
+            failed: nobody(alloc),
         },
         Err(OrderFault::Usage { place }) => Ran {
             status: refuse(alloc, place, out),
             site,
             crew,
             ran: Items::new(alloc),
+            failed: nobody(alloc),
         },
         Err(OrderFault::Memory) => Ran {
             status: Status::Memory,
             site,
             crew,
             ran: Items::new(alloc),
+            failed: nobody(alloc),
         },
     }
 }

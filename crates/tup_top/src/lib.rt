@@ -13,6 +13,7 @@ mod order;
 mod parting;
 mod print;
 mod status;
+mod telling;
 mod todo;
 mod update;
 mod verify;

@@ -33,6 +33,7 @@ pub(crate) struct Options {
     pub(crate) verbose: bool,
     pub(crate) explain: bool,
     pub(crate) jobs: Jobs,
+    pub(crate) log: bool,
 }
 
 impl Options {
@@ -47,6 +48,7 @@ impl Options {
             verbose: false,
             explain: false,
             jobs: Jobs::NotSaid,
+            log: false,
         }
     }
 
@@ -77,6 +79,7 @@ impl Options {
             "--proc" => self.awaiting_program(),
             "-k" => self.going_on(),
             "--explain" => self.explaining(),
+            "--log" => self.logging(),
             "--quiet" => self.showing(true, false),
             "--verbose" => self.showing(false, true),
             "-j" => self.awaiting_jobs(),
@@ -128,6 +131,18 @@ impl Options {
             explain: true,
             ..self
         })
+    }
+
+    /// These options and that it logs what it did; none where they say so.
+    fn logging(self) -> Option<Options>
+        ensures taken { result ≡ specs.logging self }
+        ensures counted { IfSome result
+            (λ options. specs.count self + 1 ≤ specs.count options) }
+    {
+        if self.log {
+            return None;
+        }
+        Some(Options { log: true, ..self })
     }
 
     /// These options and one of what is shown; none where they say anything of that.

@@ -31,6 +31,8 @@ pub enum Order {
         explain: bool,
         /// How many commands it runs at a time, if that is said.
         jobs: Option<u32>,
+        /// Whether it logs what it did.
+        log: bool,
     },
     /// List what an update would remove and run, and do neither.
     Todo,
@@ -126,6 +128,7 @@ fn ended(place: u32, given: Options) -> Result<Order, OrderFault>
         verbose,
         explain,
         jobs,
+        log,
     } = given;
     let program = match program {
         Program::NotNamed => None,
@@ -144,5 +147,6 @@ fn ended(place: u32, given: Options) -> Result<Order, OrderFault>
         verbose,
         explain,
         jobs,
+        log,
     })
 }

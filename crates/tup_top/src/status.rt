@@ -89,6 +89,8 @@ pub enum Status {
     RunFault,
     /// The order was carried out, and its lines couldn't be written.
     SinkFault,
+    /// The order was carried out, and a reporter failed.
+    TellFault,
     /// There would be more of these than this number.
     Limit { what: What, number: u64 },
     /// There was no memory.
@@ -120,6 +122,7 @@ impl Status {
             Status::SiteFault => 7,
             Status::RunFault => 8,
             Status::SinkFault => 9,
+            Status::TellFault => 10,
             Status::Limit { .. } => 11,
             Status::Memory => 12,
             Status::Differs { .. } => 13,
@@ -338,6 +341,7 @@ impl fmt::Display for Status {
             Status::SiteFault => f.write_str("fault: the file tree or the store failed"),
             Status::RunFault => f.write_str("fault: the runner failed"),
             Status::SinkFault => f.write_str("fault: the output failed"),
+            Status::TellFault => f.write_str("fault: a reporter failed"),
             Status::Limit { what, number } => write!(f, "fault: limit {what}, {number}"),
             Status::Memory => f.write_str("fault: no memory"),
             Status::Differs { path } => write!(f, "differs: {path}"),

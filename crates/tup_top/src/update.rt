@@ -18,15 +18,18 @@ ghost use Rattle.tup_promise.specs.Unopened.{IsReadable};
 ghost use Rattle.tup_promise.specs.Users.{HasUsersFile, IsHeldUp};
 ghost use Rattle.tup_top.specs.Crew.{IsCrew};
 ghost use Rattle.tup_top.specs.Lines.{lines as lines_of};
-ghost use Rattle.tup_top.specs.Printed.{Ends, IsDone, Prints, PrintsDemo, PrintsUpdate, SaysWhyOf};
+ghost use Rattle.tup_top.specs.Printed.{Ends, EndsTold, IsDone, Prints, PrintsDemo, PrintsUpdate, SaysWhyOf};
 ghost use Rattle.tup_top.specs.Printed.{demo_world};
 ghost use Rattle.tup_top.specs.Promise.{HasCrewCause, HasDemoCause, Logs, OnceDone};
 ghost use Rattle.tup_top.specs.Promise.{OpensStore, Spares, counts};
 ghost use Rattle.tup_top.specs.Status.{IfCame, status_of as told_by};
+ghost use Rattle.tup_top.specs.Telling.{Hears, Reports, TellsUpdate};
+ghost use Rattle.tup_top.specs.declared.status.Status.TheVariants.{TellFault};
 
 use crate::parting::{part_off, rejoined};
 use crate::print::{lines, print, tell};
 use crate::status::{Status, status_of, status_of_begun};
+use crate::telling::{after_telling, hear, nobody};
 use std::alloc::Global;
 use std::sync::Wait;
 use std::thread::Threads;
@@ -40,31 +43,40 @@ use tup_promise::{Log, Stop};
 use tup_rule::RuleName;
 use tup_runner::Runner;
 use tup_site::{MemRefused, Site};
-use tup_tell::Sink;
+use tup_tell::{Keep, Reporter, Sink, Telling};
 use tup_update::{Asked, Updated, update_site};
 
 /// How an update ended, with the site and the crew as it left them.
 #[derive(Drop)]
-pub(crate) struct Ended<S, R> {
+pub(crate) struct Ended<S, R, T> {
     pub status: Status,
     pub site: S,
     /// The runners, in their order.
     pub crew: Vec<R>,
     /// The rules that it began, in order.
     pub ran: Items<RuleName>,
+    /// The reporters that failed, in their order.
+    pub failed: Vec<T>,
 }
 
 /// Updates the files of a site by the first `jobs` runners of a crew; the others are as they were.
 /// Where there is no memory to part them nothing is done.
-pub(crate) fn update_by<W: Threads + Wait + Sync, S: Site + Send, R: Runner + Send, K: Sink>(
+pub(crate) fn update_by<
+    W: Threads + Wait + Sync,
+    S: Site + Send,
+    R: Runner + Send,
+    T: Reporter,
+    K: Sink,
+>(
     rt: &W,
     alloc: Global,
     site: S,
     crew: Vec<R>,
     jobs: usize,
     asked: Asked,
+    tellers: &mut Vec<T>,
     out: &mut K,
-) -> Ended<S, R>
+) -> Ended<S, R, T>
     requires crew { IsCrew crew.items }
     requires jobs { (0 < jobs) × (jobs ≤ length crew.items) }
     ensures opens_store { IsTrue S.tells → let old = S.world site in
@@ -113,8 +125,15 @@ pub(crate) fn update_by<W: Threads + Wait + Sync, S: Site + Send, R: Runner + Se
         → let before = K.faults out.old in let now = K.faults out.new in
         let old = S.world site in let new = S.world result.site in
         let says = SaysWhyOf S.Site.own site asked.explain in
-        PrintsUpdate jobs S.tells asked.keep_going says old new result.ran before now
+        let hears = Hears T.told T.faults tellers.old.items tellers.new.items result.failed.items in
+        PrintsUpdate jobs S.tells asked.keep_going says hears old new result.ran before now
         (K.held out.old) (K.held out.new) result.status }
+    // What its reporters were told, wherever its lines went.
+    ensures tells { let before = K.faults out.old in let now = K.faults out.new in
+        let old = S.world site in let new = S.world result.site in
+        let hears = Hears T.told T.faults tellers.old.items tellers.new.items result.failed.items in
+        TellsUpdate jobs S.tells asked.keep_going hears old new result.ran before now result.status }
+    ensures blamed_reporter { result.status ≡ TellFault → result.failed.items ≡ [] → ⊥ }
     ensures crew { length result.crew.items ≡ length crew.items }
     ensures others { drop jobs result.crew.items ≡ drop jobs crew.items }
 {
@@ -127,12 +146,14 @@ pub(crate) fn update_by<W: Threads + Wait + Sync, S: Site + Send, R: Runner + Se
                 site,
                 crew,
                 ran,
-            } = update(rt, alloc, site, crew, asked, out);
+                failed,
+            } = update(rt, alloc, site, crew, asked, tellers, out);
             Ended {
                 status,
                 site,
                 crew: rejoined(crew, others),
                 ran,
+                failed,
             }
         }
         Err(_) => Ended {
@@ -140,20 +161,28 @@ pub(crate) fn update_by<W: Threads + Wait + Sync, S: Site + Send, R: Runner + Se
             site,
             crew,
             ran: Items::new(alloc),
+            failed: nobody(alloc),
         },
     }
 }
 
-/// Updates the files of a site by a crew, going on after a bad verdict or not, and prints the
-/// lines of this update, with why each rule was run where that is asked.
-pub(crate) fn update<W: Threads + Wait + Sync, S: Site + Send, R: Runner + Send, K: Sink>(
+/// Updates the files of a site by a crew, going on after a bad verdict or not. Tells the reporters
+/// what it did, and prints its lines, with why each rule was run where that is asked.
+pub(crate) fn update<
+    W: Threads + Wait + Sync,
+    S: Site + Send,
+    R: Runner + Send,
+    T: Reporter,
+    K: Sink,
+>(
     rt: &W,
     alloc: Global,
     site: S,
     crew: Vec<R>,
     asked: Asked,
+    tellers: &mut Vec<T>,
     out: &mut K,
-) -> Ended<S, R>
+) -> Ended<S, R, T>
     requires crew { IsCrew crew.items }
     ensures opens_store { IsTrue S.tells → let old = S.world site in
         let new = S.world result.site in
@@ -200,8 +229,17 @@ pub(crate) fn update<W: Threads + Wait + Sync, S: Site + Send, R: Runner + Send,
         → let before = K.faults out.old in let now = K.faults out.new in
         let old = S.world site in let new = S.world result.site in
         let says = SaysWhyOf S.Site.own site asked.explain in
-        PrintsUpdate (length crew.items) S.tells asked.keep_going says old new result.ran before now
-        (K.held out.old) (K.held out.new) result.status }
+        let hears = Hears T.told T.faults tellers.old.items tellers.new.items result.failed.items in
+        PrintsUpdate (length crew.items) S.tells asked.keep_going says hears old new result.ran
+        before now (K.held out.old) (K.held out.new) result.status }
+    // What its reporters were told, wherever its lines went.
+    ensures tells { let before = K.faults out.old in let now = K.faults out.new in
+        let old = S.world site in let new = S.world result.site in
+        let hears = Hears T.told T.faults tellers.old.items tellers.new.items result.failed.items in
+        TellsUpdate (length crew.items) S.tells asked.keep_going hears old new result.ran before now
+        result.status }
+    ensures blamed_reporter { result.status ≡ TellFault → result.failed.items ≡ [] → ⊥ }
+    ensures nobody { tellers.old.items ≡ [] → result.failed.items ≡ [] }
     ensures crew { length result.crew.items ≡ length crew.items }
 {
     let Updated {
@@ -211,32 +249,75 @@ pub(crate) fn update<W: Threads + Wait + Sync, S: Site + Send, R: Runner + Send,
         because,
         stopped,
     } = update_site(rt, alloc, site, crew, asked);
-    let status = tell_all(alloc, &log, because.as_slice(), stopped, out);
+    let Reported { status, failed } = tell_all(
+        alloc,
+        &log,
+        because.as_slice(),
+        stopped,
+        tellers,
+        out,
+    );
     Ended {
         status,
         site,
         crew,
         ran: log.ran,
+        failed,
     }
 }
 
-/// Prints the lines of an update that did what its log says and stopped so, and says how the order
-/// ends then.
-fn tell_all<K: Sink>(
+/// How an update ends whose reporters were told.
+#[derive(Drop)]
+struct Reported<T> {
+    status: Status,
+    /// The reporters that failed, in their order.
+    failed: Vec<T>,
+}
+
+/// Tells the reporters what an update did by its log, prints its lines, and says how the order ends
+/// then.
+fn tell_all<T: Reporter, K: Sink>(
     alloc: Global,
     log: &Log,
     because: &[Option<Text>],
     stopped: Option<Stop>,
+    tellers: &mut Vec<T>,
+    out: &mut K,
+) -> Reported<T>
+    ensures ends { let came = told_by log.now stopped in
+        EndsTold (K.faults out.old) (K.faults out.new) came result.status }
+    ensures counted { IsDone result.status → K.faults out.new ≡ K.faults out.old }
+    ensures reports { let came = told_by log.now stopped in
+        let hears = Hears T.told T.faults tellers.old.items tellers.new.items result.failed.items in
+        let before = K.faults out.old in let now = K.faults out.new in
+        Reports hears log.now because.now (IsTrue K.tells) came before now
+        (K.held out.old) (K.held out.new) result.status }
+    ensures blamed_reporter { result.status ≡ TellFault → result.failed.items ≡ [] → ⊥ }
+    ensures nobody { tellers.old.items ≡ [] → result.failed.items ≡ [] }
+{
+    let came = status_of(log, stopped);
+    let Telling { failed, all } = hear(alloc, log, tellers);
+    let status = after_telling(came, all, failed.is_empty());
+    let status = print_lines(alloc, log, because, status, out);
+    Reported { status, failed }
+}
+
+/// Prints the lines of an update with this log that ends with this status, and says how the order
+/// ends then.
+fn print_lines<K: Sink>(
+    alloc: Global,
+    log: &Log,
+    because: &[Option<Text>],
+    status: Status,
     out: &mut K,
 ) -> Status
-    ensures ends { Ends (K.faults out.old) (K.faults out.new) (told_by log.now stopped) result }
+    ensures ends { Ends (K.faults out.old) (K.faults out.new) status result }
     ensures counted { IsDone result → K.faults out.new ≡ K.faults out.old }
-    ensures prints { IsTrue K.tells → let status = told_by log.now stopped in
-        let before = K.faults out.old in let now = K.faults out.new in
+    ensures prints { IsTrue K.tells
+        → let before = K.faults out.old in let now = K.faults out.new in
         Prints status (lines_of log.now because.now status) before now
         (K.held out.old) (K.held out.new) result }
 {
-    let status = status_of(log, stopped);
     match lines(alloc, log, because, &status) {
         Ok(text) => print(alloc, &text, status, out),
         Err(_) => Status::Memory,
@@ -254,8 +335,9 @@ pub(crate) fn demo<W: Threads + Wait + Sync, K: Sink>(rt: &W, alloc: Global, out
         keep_going: false,
         explain: false,
     };
+    let mut tellers: Vec<Keep> = nobody(alloc);
     match demo_parts(alloc) {
-        Ok((site, crew)) => update(rt, alloc, site, crew, plain, out).status,
+        Ok((site, crew)) => update(rt, alloc, site, crew, plain, &mut tellers, out).status,
         Err(fault) => tell(alloc, status_of_begun(Err(fault)), out),
     }
 }

@@ -10,6 +10,7 @@ mod length;
 mod lives;
 mod many;
 mod session;
+mod tellers;
 mod turns;
 
 use found::Found;
@@ -34,6 +35,7 @@ fn main(rt: HostRuntime) -> io::Result<()> {
     try_rows(&rt, &rt, rt.alloc(), "verify.rows")?;
     try_rows(&rt, &rt, rt.alloc(), "todo.rows")?;
     try_rows(&rt, &rt, rt.alloc(), "explain.rows")?;
+    try_rows(&rt, &rt, rt.alloc(), "told.rows")?;
     try_lives(&rt, &rt, rt.alloc(), "history.rows")
 }
 

@@ -5,6 +5,7 @@ use crate::cost::Cost;
 use crate::failing::Failing;
 use crate::length::{lengthen, store_length};
 use crate::many::write_many;
+use crate::tellers::{Tellers, add_counts, add_lines, three, two_failing};
 use std::alloc::{AllocError, Global};
 use std::sync::Wait;
 use std::thread::Threads;
@@ -15,7 +16,7 @@ use tup_rows::{RowFault, Words, set};
 use tup_rule::RuleName;
 use tup_site::{MemSite, Site};
 use tup_stored_graph::Graph;
-use tup_tell::{MemSink, Sink};
+use tup_tell::{KeepThenFail, MemSink, Sink};
 use tup_top::{Ran, Status, Word, tup};
 
 /// A project, and what runs its commands.
@@ -66,6 +67,13 @@ impl<'a, W: Threads + Wait + Sync> Session<'a, W> {
             "tup" => self.call(alloc, said, 0),
             "tup_unheard" => self.call(alloc, said, 1),
             "tup_by" => self.call_by(alloc, said),
+            "tup_told" => self.call_told(alloc, said, 1, three(alloc, said.number_at(0))),
+            "tup_untold" => self.call_told(
+                alloc,
+                said,
+                2,
+                two_failing(alloc, said.number_at(0), said.number_at(1)),
+            ),
             _ => match &mut self.project {
                 Some(project) => answer_of_project(alloc, project, call, said),
                 None => Words::none(alloc, RowFault::Memory),
@@ -96,7 +104,9 @@ impl<'a, W: Threads + Wait + Sync> Session<'a, W> {
         match vec![in alloc; sink_fails] {
             Ok(fails) => {
                 let words = words_from(alloc, said, 0);
-                self.run(alloc, &words, project, 1, &mut MemSink::new(alloc, fails))
+                let mut tellers = Vec::new(alloc);
+                let mut out = MemSink::new(alloc, fails);
+                self.run(alloc, &words, project, 1, &mut tellers, &mut out)
             }
             Err(_) => {
                 drop(project);
@@ -111,12 +121,45 @@ impl<'a, W: Threads + Wait + Sync> Session<'a, W> {
         match self.project.take() {
             Some(project) => {
                 let words = words_from(alloc, said, 1);
+                let mut tellers = Vec::new(alloc);
                 let mut out = MemSink::new(alloc, Vec::new(alloc));
-                let answer = self.run(alloc, &words, project, said.number_at(0), &mut out);
+                let many = said.number_at(0);
+                let answer = self.run(alloc, &words, project, many, &mut tellers, &mut out);
                 with_lines(alloc, &answer, &out)
             }
             None => Words::none(alloc, RowFault::Memory),
         }
+    }
+
+    /// Calls the program with reporters, the words from a place on, and gives its exit number and what it printed, what those
+    /// that failed were told, and what those that stayed were.
+    fn call_told(
+        &mut self,
+        alloc: Global,
+        said: &Words,
+        from: usize,
+        tellers: Result<Tellers, AllocError>,
+    ) -> Words {
+        match (self.project.take(), tellers) {
+            (Some(project), Ok(tellers)) => self.tell(alloc, said, from, project, tellers),
+            _ => Words::none(alloc, RowFault::Memory),
+        }
+    }
+
+    fn tell(
+        &mut self,
+        alloc: Global,
+        said: &Words,
+        from: usize,
+        project: Project,
+        mut tellers: Tellers,
+    ) -> Words {
+        let words = words_from(alloc, said, from);
+        let mut out = MemSink::new(alloc, Vec::new(alloc));
+        let mut answer = self.run(alloc, &words, project, 1, &mut tellers, &mut out);
+        add_counts(alloc, tellers.as_slice(), &mut answer);
+        add_lines(alloc, tellers.as_slice(), &mut answer);
+        answer
     }
 
     /// Runs the program with a crew of so many, the first of which is the project's runner.
@@ -126,6 +169,7 @@ impl<'a, W: Threads + Wait + Sync> Session<'a, W> {
         words: &[Word],
         project: Project,
         many: u64,
+        tellers: &mut Tellers,
         out: &mut MemSink,
     ) -> Words {
         let Project {
@@ -138,7 +182,7 @@ impl<'a, W: Threads + Wait + Sync> Session<'a, W> {
         let before = Cost::of(&site);
         match crew_of(alloc, runner, many) {
             Ok(crew) => {
-                let ran = tup(self.rt, alloc, words, site, crew, out);
+                let ran = tup(self.rt, alloc, words, site, crew, tellers, out);
                 self.keep(alloc, ran, before, out)
             }
             Err(_) => {
@@ -152,21 +196,23 @@ impl<'a, W: Threads + Wait + Sync> Session<'a, W> {
     fn keep(
         &mut self,
         alloc: Global,
-        ran: Ran<MemSite, Failing>,
+        ran: Ran<MemSite, Failing, KeepThenFail>,
         before: Cost,
         out: &MemSink,
     ) -> Words {
-        let answer = answer_of(alloc, &ran.status, out);
+        let mut answer = answer_of(alloc, &ran.status, out);
+        add_counts(alloc, ran.failed.as_slice(), &mut answer);
         self.keep_project(ran, before);
         answer
     }
 
-    fn keep_project(&mut self, ran: Ran<MemSite, Failing>, before: Cost) {
+    fn keep_project(&mut self, ran: Ran<MemSite, Failing, KeepThenFail>, before: Cost) {
         let Ran {
             status,
             site,
             mut crew,
             ran: begun,
+            ..
         } = ran;
         drop(status);
         let cost = Cost::of(&site).beyond(before);

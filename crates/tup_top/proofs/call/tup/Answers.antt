@@ -1,4 +1,4 @@
-use Rattle.std.proofs.Common.{◌≡◌, ◌∙◌, ◌<◌, ◌≤◌, ℕ, IsTrue, ap, drop, length, map, take, inl, refl, sym, subst, arith}
+use Rattle.std.proofs.Common.{◌≡◌, ◌∙◌, ◌<◌, ◌≤◌, ℕ, IsTrue, [], ◌∷◌, ap, drop, length, map, take, inl, refl, sym, subst, arith}
 use Rattle.std.proofs.lemmas.List.{length-map}
 use Rattle.std.specs.Prelude.{slice_set}
 use Rattle.std.proofs.lemmas.Option.{none-some}
@@ -22,12 +22,15 @@ use Rattle.tup_top.specs.Crew.{CrewCompares}
 use Rattle.tup_top.specs.Order.{Wanted, goes_on, order, used, used_of}
 use Rattle.tup_top.specs.Printed.{Printed, PrintsUpdate, SaysWhyOf}
 use Rattle.tup_top.specs.Status.{IfCame}
-use Rattle.tup_top.specs.Promise.{OnceDone, FindsOut, ForTodo, ForUpdate, ForVerify, Lasts, Logs, NothingDone, QuietStep, HasCrewCause, HasPlainCause, Spares, counts}
+use Rattle.tup_top.specs.Telling.{Hears, TellsUpdate}
+use Rattle.tup_top.specs.declared.status.Status.TheVariants.{Memory}
+use Rattle.tup_top.specs.Promise.{OnceDone, FindsOut, ForTodo, ForUpdate, ForVerify, Lasts, Logs, NothingDone, QuietStep, HasBegunCause, HasComparedCause, HasCountedCause, HasCrewCause, HasDemoCause, HasPlainCause, IsRefusal, Spares, beside, counts}
 use Rattle.tup_top.proofs.Begun.{initializes_so}
 use Rattle.tup_top.proofs.Crewed.{crew_compared, crew_compares, no_crew_ran, others_stay}
 use Rattle.tup_top.proofs.Parted.{no_runs, used_fits}
-use Rattle.tup_top.proofs.Causes.{says_none}
+use Rattle.tup_top.proofs.Causes.{nothing_logged, says_none}
 use Rattle.tup_top.proofs.Idle.{idle, memory_causes, memory_found_out, memory_for_init, memory_for_update, memory_for_verify, memory_logs, memory_opens, memory_prints}
+use Rattle.tup_top.proofs.Reported.{tells_nothing, unheard}
 use Rattle.tup_top.proofs.Success.{compares_so}
 use Rattle.tup_top.proofs.Untouched.{untouched_crashes, untouched_flags, untouched_needed, untouched_states}
 use Rattle.tup_top.proofs.call.tup.Goals as goal
@@ -96,8 +99,50 @@ returns-in-Ok-Upd-clause-printed g c = λ shows.
     let now = g.K.Sink.faults update.new.out in
     let held = g.K.Sink.held c.args.out.now in
     let holds = g.K.Sink.held update.new.out in
-    subst (λ (w : Wanted). Printed (used w (length c.args.crew.items)) g.S.Site.tells g.R.Runner.tells (IsTrue g.S.Site.tells × IsKeptBySome g.S.Site c.args.site) (SaysWhyOf g.S.Site c.args.site) w g.R.Runner.next old new update.result.ran before now held holds update.result.status) (sym is)
-    (subst (λ (n : ℕ). PrintsUpdate n g.S.Site.tells c.in-Ok-Upd.keep_going (SaysWhyOf g.S.Site c.args.site c.in-Ok-Upd.explain) old new update.result.ran before now held holds update.result.status) (c.used-jobs.ensures ∙ ap (used_of c.in-Ok-Upd.jobs) (c.len.ensures ∙ c.args.crew.ok.0)) (update.ensures.printed shows))
+    let hears = Hears g.T.Reporter.told g.T.Reporter.faults c.args.tellers.now.items update.new.tellers.items update.result.failed.items in
+    subst (λ (w : Wanted). Printed (used w (length c.args.crew.items)) g.S.Site.tells g.R.Runner.tells (IsTrue g.S.Site.tells × IsKeptBySome g.S.Site c.args.site) (SaysWhyOf g.S.Site c.args.site) hears w g.R.Runner.next old new update.result.ran before now held holds update.result.status) (sym is)
+    (subst (λ (n : ℕ). PrintsUpdate n g.S.Site.tells c.in-Ok-Upd.keep_going (SaysWhyOf g.S.Site c.args.site c.in-Ok-Upd.explain) hears old new update.result.ran before now held holds update.result.status) (c.used-jobs.ensures ∙ ap (used_of c.in-Ok-Upd.jobs) (c.len.ensures ∙ c.args.crew.ok.0)) (update.ensures.printed shows))
+
+pub returns-in-Ok-Upd-clause-tells : goal.returns-in-Ok-Upd-clause-tells
+returns-in-Ok-Upd-clause-tells g c = λ _.
+    let wanted = rw c.in-Ok-Upd.is at c.order_of.ensures in
+    let is = rw c.in-Ok-Upd.field-0-is at wanted in
+    let update = c.update_by-status in
+    let old = g.S.Site.world c.args.site in
+    let new = g.S.Site.world update.result.site in
+    let before = g.K.Sink.faults c.args.out.now in
+    let now = g.K.Sink.faults update.new.out in
+    let hears = Hears g.T.Reporter.told g.T.Reporter.faults c.args.tellers.now.items update.new.tellers.items update.result.failed.items in
+    subst (λ (w : Wanted). TellsUpdate (used w (length c.args.crew.items)) g.S.Site.tells (goes_on w) hears old new update.result.ran before now update.result.status) (sym is)
+    (subst (λ (n : ℕ). TellsUpdate n g.S.Site.tells c.in-Ok-Upd.keep_going hears old new update.result.ran before now update.result.status) (c.used-jobs.ensures ∙ ap (used_of c.in-Ok-Upd.jobs) (c.len.ensures ∙ c.args.crew.ok.0)) update.ensures.tells)
+
+pub returns-in-Ok-Upd-clause-blamed_reporter : goal.returns-in-Ok-Upd-clause-blamed_reporter
+returns-in-Ok-Upd-clause-blamed_reporter g c = c.update_by-status.ensures.blamed_reporter
+
+-- no reporter is blamed without an update
+
+pub returns-in-Ok-Init-clause-blamed_reporter : goal.returns-in-Ok-Init-clause-blamed_reporter
+returns-in-Ok-Init-clause-blamed_reporter g c = λ is _.
+    absurd (subst (HasBegunCause (g.S.Site.faults c.args.site) (g.S.Site.faults c.init-status.new.site) (g.K.Sink.faults c.args.out.now) (g.K.Sink.faults c.init-status.new.out)) is c.init-status.ensures.counted_cause)
+
+pub returns-in-Ok-Todo-clause-blamed_reporter : goal.returns-in-Ok-Todo-clause-blamed_reporter
+returns-in-Ok-Todo-clause-blamed_reporter g c = λ is _.
+    absurd (subst (HasCountedCause (beside [] (g.S.Site.faults c.args.site) (g.K.Sink.faults c.args.out.now)) (beside [] (g.S.Site.faults c.todo-status.new.site) (g.K.Sink.faults c.todo-status.new.out))) is (c.todo-status.ensures.counted_cause []))
+
+pub returns-in-Ok-Verify-clause-blamed_reporter : goal.returns-in-Ok-Verify-clause-blamed_reporter
+returns-in-Ok-Verify-clause-blamed_reporter g c = λ is _.
+    absurd (subst (HasComparedCause (counts g.S.Site.faults g.R.Runner.faults g.K.Sink.faults c.args.site (c.index_mut.result.now ∷ []) c.args.out.now)
+    (counts g.S.Site.faults g.R.Runner.faults g.K.Sink.faults c.verify-status.new.site (c.verify-status.new.runner ∷ []) c.verify-status.new.out)) is c.verify-status.ensures.counted_cause)
+
+pub returns-in-Ok-Demo-clause-blamed_reporter : goal.returns-in-Ok-Demo-clause-blamed_reporter
+returns-in-Ok-Demo-clause-blamed_reporter g c = λ is _.
+    absurd (subst (HasDemoCause (g.K.Sink.faults c.args.out.now) (g.K.Sink.faults c.demo.new.out)) is c.demo.ensures.cause)
+
+pub returns-in-Err-Usage-clause-blamed_reporter : goal.returns-in-Err-Usage-clause-blamed_reporter
+returns-in-Err-Usage-clause-blamed_reporter g c = λ is _. absurd (subst (IsRefusal c.in-Err-Usage.place) is c.refuse.ensures.cause)
+
+pub returns-clause-blamed_reporter : goal.returns-clause-blamed_reporter
+returns-clause-blamed_reporter g c = λ is _. absurd (cc is)
 
 pub returns-in-Ok-Upd-clause-states : goal.returns-in-Ok-Upd-clause-states
 returns-in-Ok-Upd-clause-states g c = λ here _. c.update_by-status.ensures.states here
@@ -191,9 +236,21 @@ returns-clause-ran g c = λ _.
     let lists = map g.R.Runner.ran (take (used (order c.args.words.now) (length c.args.crew.items)) c.args.crew.items) in
     memory_for_update (order c.args.words.now) (CrewRuns c.new-in-Err-Memory.result lists lists) (no_runs lists c.new-in-Err-Memory.result c.new-in-Err-Memory.ensures)
 
+pub returns-clause-tells : goal.returns-clause-tells
+returns-clause-tells g c = λ _.
+    let tellers = c.args.tellers.now.items in
+    let told = g.T.Reporter.told in
+    let faults = g.T.Reporter.faults in
+    tells_nothing (used (order c.args.words.now) (length c.args.crew.items)) g.S.Site.tells (goes_on (order c.args.words.now)) (Hears told faults tellers tellers c.nobody-in-Err-Memory.result.items)
+    (unheard told faults tellers c.nobody-in-Err-Memory.result.items c.nobody-in-Err-Memory.ensures nothing_logged Memory) (g.S.Site.world c.args.site) c.new-in-Err-Memory.result c.new-in-Err-Memory.ensures (g.K.Sink.faults c.args.out.now)
+    (g.K.Sink.faults c.args.out.now)
+
 pub returns-clause-printed : goal.returns-clause-printed
 returns-clause-printed g c = λ _.
-    memory_prints (used (order c.args.words.now) (length c.args.crew.items)) g.S.Site.tells g.R.Runner.tells (IsTrue g.S.Site.tells × IsKeptBySome g.S.Site c.args.site) (SaysWhyOf g.S.Site c.args.site) (says_none g.S.Site c.args.site) (order c.args.words.now) g.R.Runner.next (g.S.Site.world c.args.site) c.new-in-Err-Memory.result (g.K.Sink.faults c.args.out.now) (g.K.Sink.held c.args.out.now)
+    let tellers = c.args.tellers.now.items in
+    let told = g.T.Reporter.told in
+    let faults = g.T.Reporter.faults in
+    memory_prints (used (order c.args.words.now) (length c.args.crew.items)) g.S.Site.tells g.R.Runner.tells (IsTrue g.S.Site.tells × IsKeptBySome g.S.Site c.args.site) (SaysWhyOf g.S.Site c.args.site) (says_none g.S.Site c.args.site) (Hears told faults tellers tellers c.nobody-in-Err-Memory.result.items) (unheard told faults tellers c.nobody-in-Err-Memory.result.items c.nobody-in-Err-Memory.ensures nothing_logged Memory) (order c.args.words.now) g.R.Runner.next (g.S.Site.world c.args.site) c.new-in-Err-Memory.result (g.K.Sink.faults c.args.out.now) (g.K.Sink.held c.args.out.now)
     c.new-in-Err-Memory.ensures
 
 pub returns-clause-logged : goal.returns-clause-logged

@@ -6,11 +6,11 @@ use Rattle.tup_demo.specs.Steady.{world_in}
 use Rattle.tup_demo.specs.contracts.steady_calls.SteadySiteSite.TheImpl as steady
 use Rattle.tup_demo.proofs.steady.SteadySite.TheSendSync as of_site
 use Rattle.tup_mini.proofs.mini.Mini.TheSendSync as of_mini
-use Rattle.tup_top.specs.Printed.{PrintsUpdate, SaysWhyOf, demo_world}
+use Rattle.tup_top.specs.Printed.{SaysWhyOf, demo_world}
 use Rattle.tup_top.specs.Promise.{OpensStore}
 use Rattle.tup_top.specs.Status.{IfCame}
-use Rattle.tup_top.proofs.Causes.{says_less}
 use Rattle.tup_top.proofs.Demo.{demo_cause, demo_counts}
+use Rattle.tup_top.proofs.Reported.{unheard_prints}
 use Rattle.tup_top.proofs.Shown.{unshown_cause, unshown_prints}
 use Rattle.tup_top.proofs.update.demo.Goals as goal
 
@@ -28,21 +28,24 @@ returns-in-Ok g c =
     let ran = c.update.result.ran in
     let left = world_in c.update.result.site in
     let alone = c.in-Ok.ensures.alone in
-    let printed : ℕ → Type 0 = λ jobs. PrintsUpdate jobs true false (SaysWhyOf steady.ghosts c.in-Ok.site false) (world_in c.in-Ok.site) left ran (g.K.Sink.faults c.args.out.now) (g.K.Sink.faults c.update.new.out) (g.K.Sink.held c.args.out.now) (g.K.Sink.held c.update.new.out) status in
+    let before = g.K.Sink.faults c.args.out.now in
+    let now = g.K.Sink.faults c.update.new.out in
+    let nobody = c.nobody-tellers.ensures in
     record {
-      cause = demo_cause left ran (g.K.Sink.faults c.args.out.now) (g.K.Sink.faults c.update.new.out) status
+      cause = demo_cause left ran before now status
           (subst (λ (w : World). IfCame status (OpensStore w left ran)) c.in-Ok.ensures.holds (c.update.ensures.opens_store refl))
-          (demo_counts c.in-Ok.crew.items c.update.result.crew.items (g.K.Sink.faults c.args.out.now) (g.K.Sink.faults c.update.new.out) status alone c.update.ensures.crew c.update.ensures.counted_cause);
+          (demo_counts c.in-Ok.crew.items c.update.result.crew.items before now status alone c.update.ensures.crew c.update.ensures.counted_cause)
+          (λ told. c.update.ensures.blamed_reporter told (c.update.ensures.nobody nobody));
       printed = λ shows. (
         ran,
         left,
-        says_less 1 true false _ (λ log chains. chains ≡ []) _ demo_world left ran (g.K.Sink.faults c.args.out.now) (g.K.Sink.faults c.update.new.out) (g.K.Sink.held c.args.out.now) (g.K.Sink.held c.update.new.out) status
-            c.in-Ok.ensures.holds (subst printed alone (c.update.ensures.printed shows)) (λ log chains said. said.0.1),
+        unheard_prints _ _ _ _ _ nobody _ alone (SaysWhyOf steady.ghosts c.in-Ok.site false) (world_in c.in-Ok.site) left ran before now (g.K.Sink.held c.args.out.now) (g.K.Sink.held c.update.new.out) status
+            (λ log chains said. said.0.1) c.in-Ok.ensures.holds (c.update.ensures.printed shows),
       );
     }
 
-pub returns-in-Err : goal.returns-in-Err
-returns-in-Err g c =
+pub returns : goal.returns
+returns g c =
     let before = g.K.Sink.faults c.args.out.now in
     let now = g.K.Sink.faults c.tell.new.out in
     let fault = c.in-Err.fault in

@@ -1,0 +1,55 @@
+-- What reporters are told of an update, and how an update ends then (own).
+use Rattle.std.specs.Prelude.{◌≡◌, ◌==◌, ℕ, Bool, false, List, [], ◌∷◌, ◌++◌, IsTrue, length, map, Option}
+use Rattle.std.specs.List.{flat_map}
+use Rattle.tup_site.specs.World.{World}
+use Rattle.tup_rule.specs.declared.rule.RuleName.{RuleName}
+use Rattle.tup_tell.specs.Parted.{AreCutOff, AreTold}
+use Rattle.tup_tell.specs.declared.event.Event.{Event}
+use Rattle.tup_tell.specs.declared.event.Event.TheVariants.{Read, Removed, Started, Ended}
+use Rattle.tup_phases.specs.Logged.{IsLogged}
+use Rattle.tup_promise.specs.Unopened.{Unopened}
+use Rattle.tup_promise.specs.declared.log.EndedRule.{EndedRule}
+use Rattle.tup_promise.specs.declared.log.Log.{Log}
+use Rattle.tup_promise.specs.declared.stop.Stop.{Stop}
+use Rattle.tup_top.specs.Printed.{Ends, Prints}
+use Rattle.tup_top.specs.Lines.{lines}
+use Rattle.tup_top.specs.Status.{status_of, after_telling}
+use Rattle.tup_top.specs.declared.status.Status.{Status}
+
+-- what is told of a rule whose command came to a verdict
+abbrev pub run_events : EndedRule → List Event
+run_events ended = Started ended.rule ∷ Ended ended.rule ended.verdict ∷ []
+
+-- The events of an update with this log, in the order of its lines: the folders that were read, the files that were removed, and
+-- the rules in the order in which their commands ended. A command that came to no verdict is told of as little as it is printed.
+abbrev pub events_of : Log → List Event
+events_of log = map Read log.read ++ (map Removed log.removed ++ flat_map run_events log.ended)
+
+-- What became of reporters, and of an update with this log that came to one status and ends as another. Each reporter was told
+-- all events and stays, or failed and left; where there was no memory the telling ended. If the update was done, but a reporter
+-- failed, it ends with this fault.
+pub record Hears {T : Type 0} (told : T → List Event) (faults : T → ℕ) (old kept failed : List T) (log : Log) (came status : Status) : Type 0 where
+  pub all : Bool
+  pub told_all : IsTrue all → AreTold told faults (events_of log) old kept failed
+  pub cut_off : all ≡ false → AreCutOff told faults (events_of log) old kept failed
+  pub status_is : status ≡ after_telling all (length failed == 0) came
+
+-- What is told of an update with this log and these chains that came to a status: first the reporters, of whom this is so by how the
+-- update ends then, and then the sink.
+pub record Reports (hears : Log → Status → Status → Type 0) (log : Log) (chains : List (Option (List ℕ))) (shows : Type 0) (came : Status) (before now : ℕ) (old new : List ℕ) (answer : Status) : Type 0 where
+  pub status : Status
+  pub heard : hears log came status
+  pub ends : Ends before now status answer
+  pub prints : shows → Prints status (lines log chains status) before now old new answer
+
+-- What reporters were told of an update by so many runners that began these rules, was to go on after a bad verdict or not, and led from
+-- one world to another: it has a log, of which this is so by the status that it came to and the one that was printed.
+pub record TellsUpdate (jobs : ℕ) (site keep_going : Bool) (hears : Log → Status → Status → Type 0) (world left : World) (ran : List RuleName) (before now : ℕ) (answer : Status) : Type 0 where
+  pub log : Log
+  pub stopped : Option Stop
+  pub begun : log.ran ≡ ran
+  pub logged : IsLogged jobs keep_going log stopped
+  pub unopened : IsTrue site → Unopened world left log stopped
+  pub status : Status
+  pub heard : hears log (status_of log stopped) status
+  pub ends : Ends before now status answer
