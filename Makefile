@@ -10,7 +10,7 @@ JOBS ?= $(shell nproc)
 TEXTS := crates.txt HANDLES $(shell find crates -name out -prune -o '(' -name '*.rt' -o -name '*.antt' ')' -print)
 VERSION = $(shell sed -n 's/^const VERSION: &str = "\(.*\)";/\1/p' crates/tup/src/main.rt)
 
-.PHONY: help look build runners demo check above promises rows test edits try shell real killed model figures fmt times install uninstall clean
+.PHONY: help look build runners demo check above promises definitions books refusals rows test edits seats try shell real killed model figures fmt times install uninstall clean
 
 help:
 	@echo 'make build      proves and builds the program, and has it print its version; JOBS=2 proves two crates at once (else as many as processors)'
@@ -19,13 +19,17 @@ help:
 	@echo 'make check      proves one crate and what is below it: CRATE=tup_stamp'
 	@echo 'make above      lists the crates that a change of one reaches: CRATE=tup_stamp'
 	@echo 'make promises   prints what each public function promises, crate by crate; CRATE=tup_stamp of that crate alone'
+	@echo 'make definitions OF=IsKept  prints the definitions of that name, or all of a crate, with their comments'
+	@echo 'make books      compares the documents with the code: clauses, definitions, limits, files, links'
+	@echo 'make refusals   lists the refusals of each public call with the clauses that say when they come; SHOW=open those that no clause names'
 	@echo 'make rows       tries one file of rows: FILE=crates/tup_store_rows/data/kept.rows'
 	@echo 'make test       the gate: every proof, the edits of must-fail/ that must be refused, every test, the program as a user meets it'
 	@echo 'make edits      the edits that must be refused and that the gate leaves out; CRATES=tup_stamp tries those of that crate alone'
+	@echo 'make seats      tries workers in threads of their own at a board in memory (some minutes; nothing of that is proved)'
 	@echo 'make try        the last part of the gate alone: the program over small projects, full disks, damaged stores'
-	@echo 'make shell      runs shell commands under tup_sh, builds examples/c, runs hostile commands, clangd and distcc (passed over where there is no strace)'
+	@echo 'make shell      runs shell commands under tup_sh, builds examples/c, runs hostile commands and several at a time, clangd and distcc (passed over where there is no strace)'
 	@echo 'make real       builds and edits Lua, zlib, brotli and ninja, fetched from Debian, and compares with clean builds and with ninja (passed over without a network)'
-	@echo 'make killed     fails and kills each system call of an update in turn, and what else only strace can show (ten minutes)'
+	@echo 'make killed     fails and kills each system call of an update in turn, stops updates by lot and on a full disk, refuses them memory (fifteen minutes)'
 	@echo 'make model      compares the programs with a second reading of the language, in Python, over rows and projects drawn by lot'
 	@echo 'make figures    tells what opening a graph, noting a scan and ending a run cost, over graphs of up to 65,536 rules'
 	@echo 'make install    builds it and puts it at $(PREFIX)/bin/tup, tup_sh and tup_shim beside it, its page where `man tup` finds it'
@@ -63,9 +67,17 @@ check:
 above:
 	@sh tests/above.sh $(CRATE)
 
-# It also compares docs/PROOF.md and docs/DEFINITIONS.md with the code, and ends with 2 where they differ.
 promises:
 	@python3 -B tests/promises.py $(CRATE)
+
+definitions:
+	@python3 -B tests/promises.py definitions $(OF)
+
+books:
+	@python3 -B tests/books.py
+
+refusals:
+	@python3 -B tests/refusals.py $(SHOW)
 
 rows:
 	@sh tests/rows.sh $(FILE)
@@ -80,6 +92,10 @@ test:
 edits:
 	sh tests/edits.sh $(CRATES)
 
+# Workers in threads of their own, at a board in memory; in some minutes.
+seats:
+	sh tests/seats.sh
+
 try: build
 	sh tests/program.sh $(TUP)
 	sh tests/skip.sh $(TUP)
@@ -89,17 +105,25 @@ shell: build runners
 	sh tests/shell.sh $(SH)
 	sh tests/c-example.sh $(TUP) $(SH)
 	sh tests/tools.sh $(TUP) $(SH)
+	sh tests/parallel.sh $(TUP) $(SH)
 
 # The sources stay in REAL, so that a second call fetches nothing.
 REAL ?= $(or $(TMPDIR),/tmp)/tup-real
 real: build runners
 	sh tests/real/real.sh $(TUP) $(SH) $(REAL)
 
+# SEED=2 draws other histories, STOPS=10000 more of them.
+SEED ?= 1
+STOPS ?= 200
 killed: build
 	sh tests/edge.sh $(TUP)
 	sh tests/calls.sh $(TUP)
+	sh tests/compact.sh $(TUP)
 	sh tests/together.sh $(TUP)
 	sh tests/orphan.sh $(TUP)
+	sh tests/no-memory.sh $(TUP)
+	python3 -B tests/stops.py killed $(TUP) $(SEED) $(STOPS)
+	python3 -B tests/stops.py full $(TUP) $(SEED) $(STOPS)
 	sh tests/killed.sh $(TUP)
 
 # SEED=2 draws others, COUNT=10 ten times as many.

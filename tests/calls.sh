@@ -8,7 +8,8 @@
 # four make a file of it, six make that and its folder durable, and eight commit, twice, what begins and what ended. Each
 # command another: 32, as the output is listed and read for the rules too, and read in place of being made. Each folder more above
 # a file that is made takes three to be made durable; it is looked at once. Where nothing is to be done no byte is written, and three syncs are made: of the store, of its folder, of the one
-# above. Word: the program. It is no part of the gate.
+# above. The updates have four runners; their calls of futex, by which they wait for each other, are told beside and in no sum.
+# Word: the program. It is no part of the gate.
 set -u
 tup=$(realpath "$1")
 if ! strace -o /dev/null true 2> /dev/null; then
@@ -45,10 +46,12 @@ update() {
         !begun || /^[^a-z]/ || /^m/ { next }
         /^p?write(64)?\(.*\/\.tup\/db(\.new)?>/ { bytes += $NF }
         /^f(data)?sync\(/ { syncs++ }
-        { sub(/\(.*/, ""); count[$0]++; all++ }
+        { sub(/\(.*/, "") }
+        $0 == "futex" { waits++; next }
+        { count[$0]++; all++ }
         END {
             for (name in count) if (count[name] >= many) { printf "  %d %s\n", count[name], name; counted += count[name] }
-            printf "  %d others\n%d system calls, %d bytes to the store, %d syncs\n", all - counted, all, bytes, syncs
+            printf "  %d others, and %d of futex\n%d system calls, %d bytes to the store, %d syncs\n", all - counted, waits, all, bytes, syncs
         }' "$work/trace" | tee "$work/counts"
     read -r all _ _ bytes _ _ _ _ syncs _ << END
 $(tail -1 "$work/counts")
@@ -64,8 +67,8 @@ rm -rf "$work/project" && mkdir "$work/project" && cd "$work/project" || exit 1
 echo hi > a
 echo ': a |> cp a b |> b' > Tupfile
 "$tup" init > /dev/null || exit 1
-update "one rule, whose output is new" 100 1
+update "one rule, whose output is new" 110 1
 echo ho > a
-update "one rule, whose source has changed" 100 1
+update "one rule, whose source has changed" 110 1
 update "one rule, and nothing to do" 100 1
 [ "$bytes $syncs" = '0 3' ] || exit 1

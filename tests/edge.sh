@@ -2,8 +2,8 @@
 # The edge of the program, where only strace can show it: which folders a removal makes durable, that no want of memory in a
 # call that may have changed something passes for a mere want of memory, what a program that gets too little of it leaves, that
 # a file that has its content is left alone, what a project without syncs asks the system for, what a file system that doesn't
-# tell case apart would do, that a second update looks at nothing, and streams and limits that a user's shell may take away. Word: the program. It ends with
-# 1 where something else came. It is no part of the gate.
+# tell case apart would do, that a second update looks at nothing, and streams and limits that a user's shell may take away. Where calls are traced
+# the update has one runner. Word: the program. It ends with 1 where something else came. It is no part of the gate.
 set -u
 tup=$(realpath "$1")
 tests=$(realpath "$(dirname "$0")")
@@ -49,12 +49,12 @@ once_more() {
     printf 'ho\n' > a
 }
 once_more
-strace -o "$work/trace" "$tup" > /dev/null
+strace -o "$work/trace" "$tup" -j 1 > /dev/null
 awk '{ name = $0; sub(/\(.*/, "", name); count[name]++ } /"\.["\/]/ { begun = 1 } begun && name ~ /^[a-z]/ && name !~ /^mmap|^exit/ { print name, count[name] }' "$work/trace" > "$work/list"
 while read -r call number; do
     what="$call number $number without memory"
     once_more
-    strace -o /dev/null -e trace="$call" -e inject="$call:error=ENOMEM:when=$number" "$tup" > "$work/told" 2> "$work/said"
+    strace -o /dev/null -e trace="$call" -e inject="$call:error=ENOMEM:when=$number" "$tup" -j 1 > "$work/told" 2> "$work/said"
     case "$call $? $(tail -1 "$work/said")" in
         'close 0 ' | 'flock 0 ' | *' 7 tup: '*'(os error 12)' | 'write 9 ' | 'read 12 ' | 'openat 12 ') ;;
         *) same "$what" "$? $(tail -1 "$work/told") $(tail -1 "$work/said")" "7 and the reason" ;;
@@ -87,12 +87,12 @@ project "$copy"
 "$tup" > /dev/null
 : > Tupfile
 cp -a . "$work/killed"
-strace -o "$work/trace" -e trace=unlink,fsync "$tup" > /dev/null
+strace -o "$work/trace" -e trace=unlink,fsync "$tup" -j 1 > /dev/null
 number=$(awk '/^unlink\("\.\/b"/ { gone = 1 } /^fsync/ { count++; if (gone) { print count; exit } }' "$work/trace")
 cd "$work/killed" || exit 1
-strace -o /dev/null -e trace=fsync -e inject=fsync:signal=KILL:when="$number" "$tup" > /dev/null 2>&1
+strace -o /dev/null -e trace=fsync -e inject=fsync:signal=KILL:when="$number" "$tup" -j 1 > /dev/null 2>&1
 same "a removal without a sync" "$(ls | tr '\n' ' ')" 'Tupfile a '
-strace -y -o "$work/trace" "$tup" > /dev/null
+strace -y -o "$work/trace" "$tup" -j 1 > /dev/null
 same "its folder is synced in time" "$(awk '
     /^fsync\([0-9]+<[^>]*\/killed>\) += 0/ { synced = 1 }
     /^pwrite64\([0-9]+<[^>]*\/\.tup\/db>/ { last = synced }
@@ -115,30 +115,30 @@ changes='unlink|rename|pwrite64|write|fdatasync|fsync'
 project "$copy"
 "$tup" > /dev/null
 touch -d @9 a b Tupfile
-strace -o "$work/trace" "$tup" > "$work/told"
+strace -o "$work/trace" "$tup" -j 1 > "$work/told"
 same "nothing is to be done" "$(cat "$work/told") $(stat -c %Y b) $(calls_of "$changes")" 'done: 0 read, 0 run, 0 removed 9 unlink 1 rename 0 pwrite64 0 write 1 fdatasync 0 fsync 3 '
 echo ': a |> cat a > b |> b' > Tupfile
-strace -o "$work/trace" "$tup" > "$work/told"
+strace -o "$work/trace" "$tup" -j 1 > "$work/told"
 same "an output that has its content" "$(tail -1 "$work/told") $(stat -c %Y b) $(calls_of "$changes")" 'done: 1 read, 1 run, 0 removed 9 unlink 1 rename 0 pwrite64 8 write 1 fdatasync 8 fsync 5 '
 printf 'ho\n' > a
-strace -o "$work/trace" "$tup" > /dev/null
+strace -o "$work/trace" "$tup" -j 1 > /dev/null
 same "an output that is made anew" "$(cat b) $(calls_of "$changes")" 'ho unlink 2 rename 0 pwrite64 6 write 2 fdatasync 6 fsync 5 '
 printf '%s\n' ': b |> cp b c |> c' >> Tupfile
-strace -o "$work/trace" "$tup" > /dev/null
+strace -o "$work/trace" "$tup" -j 1 > /dev/null
 same "a command more" "$(cat c) $(calls_of "$changes")" 'ho unlink 1 rename 0 pwrite64 8 write 2 fdatasync 8 fsync 5 '
 
 # A project without syncs asks the system for none, and is killed like any other.
 folder "$copy"
 strace -o "$work/trace" "$tup" init --no-sync > "$work/told"
 same "a project without syncs begins" "$? $(cat "$work/told") $(cat .tup/options) $(calls_of 'rename|fdatasync|fsync')" '0 initialized --no-sync rename 1 fdatasync 0 fsync 0 '
-strace -o "$work/trace" "$tup" > "$work/told"
+strace -o "$work/trace" "$tup" -j 1 > "$work/told"
 same "it is updated" "$? $(tail -1 "$work/told") $(cat b) $(calls_of 'pwrite64|fdatasync|fsync')" '0 done: 1 read, 1 run, 0 removed hi pwrite64 8 fdatasync 0 fsync 0 '
 : > Tupfile
-strace -o "$work/trace" "$tup" --proc true > "$work/told"
+strace -o "$work/trace" "$tup" --proc true -j 1 > "$work/told"
 same "through a program" "$? $(tail -1 "$work/told") $(calls_of 'pwrite64|fdatasync|fsync')" '0 done: 1 read, 0 run, 1 removed pwrite64 8 fdatasync 0 fsync 0 '
 echo "$copy" > Tupfile
 for write in 1 2 3 4; do
-    strace -o /dev/null -e trace=pwrite64 -e inject=pwrite64:signal=KILL:when=$write "$tup" > /dev/null 2>&1
+    strace -o /dev/null -e trace=pwrite64 -e inject=pwrite64:signal=KILL:when=$write "$tup" -j 1 > /dev/null 2>&1
     same "it is killed" "$? $(ls | tr '\n' ' ')" '137 Tupfile a '
 done
 same "and goes on" "$(next_update) $(cat b)" "$done_then hi"
@@ -150,15 +150,15 @@ same "a file that is gone before it is read" "$?: $(cat "$work/told" "$work/said
 
 # A file system that doesn't tell case apart shows a file under a name that its folder doesn't list.
 project "$copy" && "$tup" > /dev/null && mkdir .TUP && printf 'ho\n' > a
-listings=$(strace -e trace=getdents64 "$tup" 2>&1 > /dev/null | grep -c '^getdents64')
+listings=$(strace -e trace=getdents64 "$tup" -j 1 2>&1 > /dev/null | grep -c '^getdents64')
 printf 'hu\n' > a
-strace -o /dev/null -e trace=getdents64 -e inject=getdents64:retval=0:when=$((listings - 1)) "$tup" > "$work/told" 2> "$work/said"
+strace -o /dev/null -e trace=getdents64 -e inject=getdents64:retval=0:when=$((listings - 1)) "$tup" -j 1 > "$work/told" 2> "$work/said"
 same "a file of another spelling" "$?: $(cat "$work/said")" '7: tup: look at ./b: a file of another spelling stands here'
 same "it stays" "$(cat b)" ho
 project && mkdir sub && printf 'hi\n' > sub/a && echo "$copy" > sub/Tupfile && "$tup" > /dev/null && mkdir .TUP && printf 'ho\n' > sub/a
-listings=$(strace -e trace=getdents64 "$tup" 2>&1 > /dev/null | grep -c '^getdents64')
+listings=$(strace -e trace=getdents64 "$tup" -j 1 2>&1 > /dev/null | grep -c '^getdents64')
 printf 'hu\n' > sub/a
-strace -o /dev/null -e trace=getdents64 -e inject=getdents64:retval=0:when=$((listings - 3)) "$tup" > "$work/told" 2> "$work/said"
+strace -o /dev/null -e trace=getdents64 -e inject=getdents64:retval=0:when=$((listings - 3)) "$tup" -j 1 > "$work/told" 2> "$work/said"
 same "a file below a folder of another spelling" "$?: $(cat "$work/said")" '7: tup: look at ./sub/b: a file of another spelling stands here'
 same "it stays" "$(cat sub/b)" ho
 

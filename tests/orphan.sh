@@ -38,7 +38,7 @@ stage=\$3
 $1
 [ \$turn = 1 ] || cp "\$here/\$source" "\$stage/w0"
 : > "$work/begun.\$turn.\$output"
-while [ ! -e "$work/go.\$turn.\$output" ]; do sleep 0.05; done
+while [ ! -e "$work/go.\$turn.\$output" ]; do [ -d "$work" ] || exit; sleep 0.05; done
 [ \$turn != 1 ] || cp "$work/mine.\$turn.\$output" "\$stage/w0"
 printf 'R %s %s\nW 0 %s\nE 0\n' "\$stamp" "\$source" "\$output" > "\$stage/log"
 : > "$work/ended.\$turn.\$output"

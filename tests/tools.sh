@@ -28,11 +28,12 @@ wrong() {
     printf 'wrong: %s: %s\n' "$step" "$1"
 }
 
-# update STEP STATUS LINES: an update, its exit number, and its lines with commas between them.
+# update STEP STATUS LINES: an update by one runner, so that its lines have one order; its exit number, and its lines with commas
+# between them.
 update() {
     step=$1
     updates=$((updates + 1))
-    timeout 300 "$tup" upd --proc "$sh" > "$work/out" 2> "$work/err"
+    timeout 300 "$tup" upd --proc "$sh" -j 1 > "$work/out" 2> "$work/err"
     status=$?
     [ $status = "$2" ] || wrong "exit number $status, wanted $2: $(cat "$work/err")"
     lines=$(sed 's/^done: \([0-9]*\) read, \([0-9]*\) run, \([0-9]*\) removed$/done \1 \2 \3/' "$work/out" | paste -sd,)
