@@ -2,11 +2,9 @@
 
 For each crate, in the order of crates.txt, the first sentence of its lib.rt; then, of what it gives to the crates above it,
 each function and method with the first sentence of its comment and the names of its clauses. A clause without a name is
-printed as `ensures`. With the name of a crate, that crate alone; with the word `books`, none.
+printed as `ensures`. With the name of a crate, that crate alone.
 
-Then it compares the books with the code: each definition that docs/PROOF.md and docs/DEFINITIONS.md list
-has to be in the file that they name, and docs/PROOF.md has to have each clause of `tup` and of `history`, and no others.
-What differs is printed to standard error, and the end is then 1.
+`make definitions OF=WORD` prints the definitions of specs/ with their comments: those of a crate, or those of a name.
 """
 import os
 import re
@@ -18,6 +16,7 @@ TOP = os.path.dirname(os.path.dirname(os.path.abspath(__file__)))
 FUNCTION = re.compile(r'^( *)(pub )?(?:const )?fn (\w+)')
 BLOCK = re.compile(r'^(?:pub )?(?:impl|trait)\b(.*)$')
 CLAUSE = re.compile(r'^ *ensures(?: (\w+))? *\{')
+DEFINITION = re.compile(r'^ *(?:pub )?(?:abbrev|record|data|unfoldable|opaque) (?:pub )?([^\s:({]+)')
 
 
 def read(*parts):
@@ -109,63 +108,53 @@ def show(crate):
     print()
 
 
-def defined(crate, file):
-    """The definitions in a file of specs/, or the ghost members in one of src/."""
-    path = ('crates', crate) + (('specs', file + '.antt') if '/' not in file else (file,))
-    try:
-        text = read(*path)
-    except OSError:
-        return None
-    words = re.findall(r'^ *(?:(?:unfoldable|opaque) )?(?:abbrev|record|data|pub abbrev|pub record|pub data|unfoldable|opaque|pub)'
-                       r' (?:pub |abbrev |record |data )*([^\s:({]+)', text, re.M)
-    return set(words) | set(re.findall(r'[\w◌>=]+', ' '.join(re.findall(r'^pub use .*$', text, re.M)))) \
-        | set(re.findall(r'ghost (\w+)', text))
+def definitions(crate, file):
+    """The definitions in a file of specs/, in their order, each with its comment. Members of a `module _` are indented."""
+    found, comment = [], []
+    for line in read('crates', crate, 'specs', file + '.antt').splitlines():
+        bare = line.strip()
+        if bare.startswith('-- ----'):
+            comment = []
+        elif bare.startswith('--'):
+            comment.append(bare[2:].strip())
+        else:
+            one = DEFINITION.match(line)
+            if one:
+                found.append((one.group(1), ' '.join(comment)))
+            comment = []
+    return found
 
 
-def rows(book):
-    """The rows of a book's tables of definitions: for each name the crate and the files in which it may be."""
-    for line in read('docs', book).splitlines():
-        cells = [cell.strip() for cell in line.strip('|').split('|')]
-        if len(cells) != 3 or not re.search(r'\btup_\w+, ', cells[1]):
-            continue
-        places, crate = [], ''
-        for word in re.split(r'[;,]| and ', re.sub(r' \(.*\)|`', '', cells[1])):
-            word = word.strip()
-            if word.startswith('tup_'):
-                crate = word
-            elif word:
-                places.append((crate, word))
-        for name in re.findall(r'`([^`]+)`', cells[0]):
-            yield name, places
-
-
-def compare():
-    """What docs/PROOF.md and docs/DEFINITIONS.md say otherwise than the code."""
-    wrong = []
-    for book in ('PROOF.md', 'DEFINITIONS.md'):
-        for name, places in rows(book):
-            if not any(name in (defined(crate, file) or ()) for crate, file in places):
-                wrong.append(f'docs/{book}: {name} is not in {", ".join(f"{crate}, {file}" for crate, file in places)}')
-    text = read('docs', 'PROOF.md')
-    for crate, file, function, title in (('tup_top', 'call.rt', 'tup', '## The theorem of `tup`'),
-                                         ('tup_history', 'life.rt', 'history', '## The theorem of `history`')):
-        part = text.split(title)[1].split('\n## ')[0]
-        told = {name for bold in re.findall(r'^- \*\*(.*?)\*\*', part, re.M) for name in re.findall(r'`(\w+)`', bold)}
-        has = next(set(one[4]) for one in functions(read('crates', crate, 'src', file)) if one[2] == function)
-        wrong += [f'docs/PROOF.md: nothing of the clause {name} of {function}' for name in sorted(has - told)]
-        wrong += [f'docs/PROOF.md: {function} has no clause {name}' for name in sorted(told - has)]
-    return wrong
+def show_definitions(word):
+    """Prints the definitions of a crate, or those of a name; whether there are any."""
+    some = False
+    for crate in [word] if word in crates() else crates():
+        folder = os.path.join(TOP, 'crates', crate, 'specs')
+        for file in sorted(os.listdir(folder)) if os.path.isdir(folder) else ():
+            if not file.endswith('.antt'):
+                continue
+            for name, comment in definitions(crate, file[:-5]):
+                if word in (crate, name):
+                    some = True
+                    print(f'{name} (crates/{crate}/specs/{file})')
+                    if comment:
+                        say(comment, '    ')
+    return some
 
 
 def main(words):
-    if words != ['books']:
-        for crate in words or crates():
-            show(crate)
-        sys.stdout.flush()
-    wrong = compare()
-    for line in wrong:
-        print(line, file=sys.stderr)
-    return 1 if wrong else 0
+    if words[:1] == ['definitions']:
+        if len(words) == 2 and show_definitions(words[1]):
+            return 0
+        print('make definitions OF=WORD: a crate, or the name of a definition', file=sys.stderr)
+        return 1
+    unknown = [word for word in words if word not in crates()]
+    if unknown:
+        print(f'no crate {unknown[0]}', file=sys.stderr)
+        return 1
+    for crate in words or crates():
+        show(crate)
+    return 0
 
 
 if __name__ == '__main__':
