@@ -67,8 +67,8 @@ rm -rf "$work/project" && mkdir "$work/project" && cd "$work/project" || exit 1
 echo hi > a
 echo ': a |> cp a b |> b' > Tupfile
 "$tup" init > /dev/null || exit 1
-update "one rule, whose output is new" 110 1
+update "one rule, whose output is new" 120 1
 echo ho > a
-update "one rule, whose source has changed" 110 1
-update "one rule, and nothing to do" 100 1
+update "one rule, whose source has changed" 120 1
+update "one rule, and nothing to do" 120 1
 [ "$bytes $syncs" = '0 3' ] || exit 1

@@ -145,7 +145,7 @@ builds 'ninja -j 4' ninja -j 4
 for other in c4 c4fast n1 n4; do cmp "$work/c1/app" "$work/$other/app"; done
 
 # ---- asks: each command reads its source and 100 headers, by a program of --proc that digests them all at once
-cat > "$work/asks" <<'END'
+cat > "$work/digests" <<'END'
 #!/bin/sh
 stage=$3
 set -- $4
@@ -153,7 +153,7 @@ sha256sum -- *.h "$2" | sed 's/^\(.\{64\}\)  /R \1 /' > "$stage/log"
 cat "$2" > "$stage/w0"
 printf 'W 0 %s\nE 0\n' "$3" >> "$stage/log"
 END
-chmod +x "$work/asks"
+chmod +x "$work/digests"
 
 # asking NAME BYTES: so many commands over 100 headers of so many bytes each.
 asking() {
@@ -170,7 +170,7 @@ asking() {
             printf ": a%d |> x a%d o%d |> o%d\n", i, i, i, i > "Tupfile"
         }
     }'
-    "$tup" init --no-sync --proc "$work/asks" > /dev/null
+    "$tup" init --no-sync --proc "$work/digests" > /dev/null
 }
 
 printf '\n%d commands, each of which reads 100 headers (without syncs)\n\n' "$commands"
