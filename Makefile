@@ -10,7 +10,7 @@ JOBS ?= $(shell nproc)
 TEXTS := crates.txt HANDLES $(shell find crates -name out -prune -o '(' -name '*.rt' -o -name '*.antt' ')' -print)
 VERSION = $(shell sed -n 's/^const VERSION: &str = "\(.*\)";/\1/p' crates/tup/src/main.rt)
 
-.PHONY: help look build runners demo check above promises definitions books refusals rows test edits seats try shell real killed model figures fmt times install uninstall clean
+.PHONY: help look build runners demo check above promises definitions reach books refusals rows test edits seats try shell real killed model figures figures-crew fmt times tag install uninstall clean
 
 help:
 	@echo 'make build      proves and builds the program, and has it print its version; JOBS=2 proves two crates at once (else as many as processors)'
@@ -19,7 +19,8 @@ help:
 	@echo 'make check      proves one crate and what is below it: CRATE=tup_stamp'
 	@echo 'make above      lists the crates that a change of one reaches: CRATE=tup_stamp'
 	@echo 'make promises   prints what each public function promises, crate by crate; CRATE=tup_stamp of that crate alone'
-	@echo 'make definitions OF=IsKept  prints the definitions of that name, or all of a crate, with their comments'
+	@echo 'make definitions OF=IsKept  prints the definitions of that name with their texts, or all of a crate; or which calls have a clause of that name'
+	@echo 'make reach      lists the definitions that the contract of tup comes down to; OF=history those of histories'
 	@echo 'make books      compares the documents with the code: clauses, definitions, limits, files, links'
 	@echo 'make refusals   lists the refusals of each public call with the clauses that say when they come; SHOW=open those that no clause names'
 	@echo 'make rows       tries one file of rows: FILE=crates/tup_store_rows/data/kept.rows'
@@ -32,6 +33,8 @@ help:
 	@echo 'make killed     fails and kills each system call of an update in turn, stops updates by lot and on a full disk, refuses them memory (fifteen minutes)'
 	@echo 'make model      compares the programs with a second reading of the language, in Python, over rows and projects drawn by lot'
 	@echo 'make figures    tells what opening a graph, noting a scan and ending a run cost, over graphs of up to 65,536 rules'
+	@echo 'make figures-crew  tells what -j N gains over real files, beside ninja (passed over where there is no strace or ninja; some minutes)'
+	@echo 'make tag        gives this commit the tag of the program, as v$(VERSION), once make books finds nothing wrong'
 	@echo 'make install    builds it and puts it at $(PREFIX)/bin/tup, tup_sh and tup_shim beside it, its page where `man tup` finds it'
 	@echo 'make uninstall  takes them away'
 	@echo 'make fmt        lays out every crate'
@@ -71,7 +74,10 @@ promises:
 	@python3 -B tests/promises.py $(CRATE)
 
 definitions:
-	@python3 -B tests/promises.py definitions $(OF)
+	@python3 -B tests/promises.py definitions '$(OF)'
+
+reach:
+	@python3 -B tests/reach.py $(OF)
 
 books:
 	@python3 -B tests/books.py
@@ -139,11 +145,18 @@ model: build runners $(ROWS)
 figures:
 	sh tests/figures.sh
 
+figures-crew: build runners
+	sh tests/figures-crew.sh $(TUP) $(SH)
+
 fmt:
 	for crate in crates/*; do (cd $$crate && rt fmt) || exit 1; done
 
 times:
 	sh tests/times.sh
+
+tag: books
+	git diff --quiet HEAD
+	git tag -a v$(VERSION) -m 'tup $(VERSION)'
 
 install: build runners
 	install -D -m 755 $(TUP) $(DESTDIR)$(PREFIX)/bin/tup

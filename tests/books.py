@@ -1,6 +1,7 @@
 """Holds the documents to the code: `make books`. What differs is printed, and the end is then 1.
 
-- docs/PROOF.md has each clause of `tup` and of `history` and no others; each definition is in the file that its row names.
+- docs/PROOF.md has each clause of `tup` and of `history` and no others; each definition is in the file that its row names, and
+  the theorems reach it.
 - README's promises name clauses of these two functions.
 - Each limit of docs/USING.md is a number of the definition that its row names, and the manual has no other numbers.
 - Exit numbers and options are those of `tup --help` in USING and in the manual.
@@ -16,6 +17,7 @@ import subprocess
 import sys
 
 from promises import TOP, crates, definitions, functions, read
+from reach import reached
 
 BOOKS = ['README.md', 'CONTRIBUTING.md'] + sorted('docs/' + name for name in os.listdir(os.path.join(TOP, 'docs')))
 PAGES = [book for book in BOOKS if book.endswith('.md')]
@@ -95,9 +97,12 @@ def theorem():
         has = clauses(crate, file, function)
         for name in sorted(has ^ told):
             check(False, 'docs/PROOF.md', f'clause {name} of {function} is ' + ('missing' if name in has else 'not in the code'))
+    # What the built-in commands mean is reached by the runner's `next`, and the exit number by `main`.
+    comes_to = {one[2] for function in ('tup', 'history') for one in reached(function)} | {'mini_next', 'does', 'exit_of'}
     for name, where, *_ in (row for row in table(section('docs/PROOF.md', '## What you have to believe')) if len(row) == 3):
         for one in quoted(name):
             check(any(one in defined(*place) for place in places(where)), 'docs/PROOF.md', f'{one} is not in {where}')
+            check(one in comes_to, 'docs/PROOF.md', f'{one} is reached by no clause')
     listed = {one for row in table(section('docs/PROOF.md', '## What you have to believe')) for one in quoted(row[0])}
     for crate, file, function in THEOREMS:
         for name in sorted(cited(read('crates', crate, 'src', file), function) - listed):
@@ -182,12 +187,12 @@ def steps():
 
 def targets():
     makefile = read('Makefile')
-    helped = set(re.findall(r"@echo 'make (\w+)", makefile))
+    helped = set(re.findall(r"@echo 'make ([\w-]+)", makefile))
     has = set(re.search(r'^\.PHONY: (.*)$', makefile, re.M).group(1).split())
     for name in sorted(has - helped - {'help', 'runners'}):
         check(False, 'Makefile', f'make help says nothing of {name}')
     for book in PAGES:
-        for name in re.findall(r'(?:`|^    )make (\w+)', read(book), re.M):
+        for name in re.findall(r'(?:`|^    )make (\w[\w-]*)', read(book), re.M):
             check(name in has, book, f'no make {name}')
 
 

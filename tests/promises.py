@@ -4,7 +4,8 @@ For each crate, in the order of crates.txt, the first sentence of its lib.rt; th
 each function and method with the first sentence of its comment and the names of its clauses. A clause without a name is
 printed as `ensures`. With the name of a crate, that crate alone.
 
-`make definitions OF=WORD` prints the definitions of specs/ with their comments: those of a crate, or those of a name.
+`make definitions OF=WORD` prints definitions of specs/: of a crate all with their comments, of a name each with its comment and
+its text; and each clause of that name.
 """
 import os
 import re
@@ -108,45 +109,68 @@ def show(crate):
     print()
 
 
-def definitions(crate, file):
-    """The definitions in a file of specs/, in their order, each with its comment. Members of a `module _` are indented."""
-    found, comment = [], []
+def defined(crate, file):
+    """The definitions in a file of specs/, in their order, each with its comment and the lines of its text."""
+    found, comment, body = [], [], None
     for line in read('crates', crate, 'specs', file + '.antt').splitlines():
         bare = line.strip()
-        if bare.startswith('-- ----'):
+        if bare.startswith('--'):
+            comment = [] if bare.startswith('-- ----') else [*comment, bare[2:].strip()]
+        elif DEFINITION.match(line):
+            body = [line]
+            found.append((DEFINITION.match(line).group(1), ' '.join(comment), body))
             comment = []
-        elif bare.startswith('--'):
-            comment.append(bare[2:].strip())
-        else:
-            one = DEFINITION.match(line)
-            if one:
-                found.append((one.group(1), ' '.join(comment)))
+        elif not bare:
+            comment, body = [], None
+        elif not bare.startswith('infix'):
             comment = []
+            if body is not None:
+                body.append(line)
     return found
 
 
+def definitions(crate, file):
+    """The definitions in a file of specs/, in their order, each with its comment. Members of a `module _` are indented."""
+    return [(name, comment) for name, comment, _ in defined(crate, file)]
+
+
 def show_definitions(word):
-    """Prints the definitions of a crate, or those of a name; whether there are any."""
+    """Prints the definitions of a crate, or those of a name with their texts; whether there are any."""
     some = False
     for crate in [word] if word in crates() else crates():
         folder = os.path.join(TOP, 'crates', crate, 'specs')
         for file in sorted(os.listdir(folder)) if os.path.isdir(folder) else ():
             if not file.endswith('.antt'):
                 continue
-            for name, comment in definitions(crate, file[:-5]):
+            for name, comment, body in defined(crate, file[:-5]):
                 if word in (crate, name):
                     some = True
                     print(f'{name} (crates/{crate}/specs/{file})')
                     if comment:
                         say(comment, '    ')
+                    if word == name:
+                        print(textwrap.indent(textwrap.dedent('\n'.join(body)), '        '))
+    return some
+
+
+def show_clauses(word):
+    """Prints each public function that has a clause of this name; whether there are any."""
+    some = False
+    for crate in crates():
+        names = exported(root_of(crate))
+        for file in sources(crate):
+            for block, public, function, _, clauses in functions(read('crates', crate, 'src', file)):
+                if public and word in clauses and names & set(re.findall(r'\w+', block or function)):
+                    some = True
+                    print(f'clause {word} of {block + ": " if block else ""}{function} (crates/{crate}/src/{file})')
     return some
 
 
 def main(words):
     if words[:1] == ['definitions']:
-        if len(words) == 2 and show_definitions(words[1]):
+        if len(words) == 2 and any([show_definitions(words[1]), show_clauses(words[1])]):
             return 0
-        print('make definitions OF=WORD: a crate, or the name of a definition', file=sys.stderr)
+        print('make definitions OF=WORD: a crate, or the name of a definition or of a clause', file=sys.stderr)
         return 1
     unknown = [word for word in words if word not in crates()]
     if unknown:
