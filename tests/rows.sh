@@ -1,7 +1,7 @@
 #!/bin/sh
 # Tries one data file of a program of rows: tells each row whose answer differs, and how many do. Word: the file, as
 # crates/tup_store_rows/data/kept.rows. The program is that which `rt run` built of the texts as they are; where there is none it is
-# tried unproved, in a minute or two. It ends with 1 where a row differs.
+# tried unproved, in a minute or two. It ends with 1 where a row differs, and where it has none.
 set -eu
 file=$(realpath "$1")
 cd "$(dirname "$file")/.."
@@ -24,5 +24,6 @@ else
     shift
     rt try "$@" > "$work/said"
 fi
-sed -n "/: 0 rows, 0 differ$/!p" "$work/said"
-! grep -q ' [1-9][0-9]* differ$' "$work/said"
+tried=$(basename "$file")
+sed "/^$tried:/!{/: no rows$/d}" "$work/said"
+grep -qx "$tried: 0 differ" "$work/said"

@@ -1,8 +1,8 @@
 //! Rows of data: a call, its arguments and the answer that is wanted, a line each.
 //!
 //! A program answers the rows of a file through `Answers`, and `report` gives what it prints: a line for each
-//! row that differs, and a count. The gate compares that with the program's stored output, so a new row is a
-//! line of text and no code.
+//! row that differs, and how many do. The gate compares that with the program's stored output, which says nothing of the
+//! rows that are as they have to be: a new row is a line of text, and no code. A file whose rows are missing says so.
 //!
 //! Words are divided by blanks. One that has a blank, a quote or a backslash in it, that is empty or `=`, or that begins
 //! with `#` stands in double quotes, in which `\n`, `\t`, `\r`, `\\`, `\"` and `\xHH` stand for a byte each. The first

@@ -6,7 +6,7 @@ use crate::words::Words;
 use std::alloc::Global;
 
 /// Answers the rows of a file, and gives the lines to print: one for each row that differs or can't be
-/// answered, and the count at the end, `NAME: 41 rows, 0 differ`.
+/// answered, and how many do at the end, `NAME: 0 differ`. Of a file without a row that last line is `NAME: no rows`.
 pub fn report<A: Answers>(
     alloc: Global,
     name: &str,
@@ -20,13 +20,13 @@ pub fn report<A: Answers>(
     lines.ended(alloc, name)
 }
 
-/// What is to be printed, and what was counted.
+/// What is to be printed, and what was found.
 #[derive(Drop)]
 struct Lines {
     text: String,
     /// The number of the last line.
     number: u64,
-    rows: u64,
+    has_rows: bool,
     differ: u64,
 }
 
@@ -35,7 +35,7 @@ impl Lines {
         Lines {
             text: String::new(alloc),
             number: 0,
-            rows: 0,
+            has_rows: false,
             differ: 0,
         }
     }
@@ -46,7 +46,7 @@ impl Lines {
         match outcome {
             Outcome::NoRow => Ok(()),
             Outcome::Same => {
-                self.rows = self.rows.saturating_add(1);
+                self.has_rows = true;
                 Ok(())
             }
             Outcome::Differs(complaint) => self.complain(alloc, name, &complaint),
@@ -54,22 +54,31 @@ impl Lines {
     }
 
     fn complain(&mut self, alloc: Global, name: &str, complaint: &str) -> Result<(), RowFault> {
-        self.rows = self.rows.saturating_add(1);
+        self.has_rows = true;
         self.differ = self.differ.saturating_add(1);
         let number = self.number;
         self.add(format!(in alloc; "{name}:{number}: {complaint}\n")?)
     }
 
-    /// All lines, with the counts behind them.
+    /// All lines, with how many rows differ behind them.
     fn ended(mut self, alloc: Global, name: &str) -> Result<String, RowFault> {
-        let (rows, differ) = (self.rows, self.differ);
-        self.add(format!(in alloc; "{name}: {rows} rows, {differ} differ\n")?)?;
+        let (has_rows, differ) = (self.has_rows, self.differ);
+        self.add(last_line(alloc, name, has_rows, differ)?)?;
         Ok(self.text)
     }
 
     fn add(&mut self, line: String) -> Result<(), RowFault> {
         self.text.push_str(&line)?;
         Ok(())
+    }
+}
+
+/// How many rows of a file differ, or that it has none.
+fn last_line(alloc: Global, name: &str, has_rows: bool, differ: u64) -> Result<String, RowFault> {
+    if has_rows {
+        Ok(format!(in alloc; "{name}: {differ} differ\n")?)
+    } else {
+        Ok(format!(in alloc; "{name}: no rows\n")?)
     }
 }
 

@@ -30,6 +30,7 @@ sources_of inputs order group = record { order = paths_of order.inputs; groups =
 abbrev pub plan_with : Words → Found → Found → Option GroupRef → Plan
 plan_with words inputs order group = record { sources = sources_of inputs order group; jobs = jobs_of words inputs.inputs }
 
+-- the same, once the input words and the order-only words were looked up: the group is what is left to look up
 unfoldable pub plan_of : Spot → Words → Found → Found → Reads ParseFault Plan
 plan_of at words inputs order = and_then (given_to at words.group) (λ group. gives (plan_with words inputs order group))
 

@@ -13,12 +13,14 @@ kept_by keep = keep.events.items
 abbrev pub tallied_by : Tally → List Event
 tallied_by tally = kept_by tally.kept
 
--- what a KeepThenFail was told, how many events it keeps, and how often it failed
+-- what a KeepThenFail was told
 abbrev pub kept_until : KeepThenFail → List Event
 kept_until one = kept_by one.kept
 
+-- how many events it keeps at most
 abbrev pub most_of : KeepThenFail → ℕ
 most_of one = one.most
 
+-- how often it failed
 abbrev pub failed_so_often : KeepThenFail → ℕ
 failed_so_often one = one.faults

@@ -19,18 +19,22 @@ of_sink sink.Fault = told.Fault
 of_sink sink.Memory = told.Memory
 
 -- ---- events by their kind
+-- that a folder's source was read
 abbrev pub is_read : Event → Bool
 is_read (Read dir) = true
 is_read other = false
 
+-- that an output was removed
 abbrev pub is_removed : Event → Bool
 is_removed (Removed path) = true
 is_removed other = false
 
+-- that a rule was begun
 abbrev pub is_started : Event → Bool
 is_started (Started rule) = true
 is_started other = false
 
+-- that a rule ended
 abbrev pub is_ended : Event → Bool
 is_ended (Ended rule verdict) = true
 is_ended other = false
