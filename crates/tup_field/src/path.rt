@@ -79,21 +79,21 @@ fn read_names(alloc: Global, depth: u8, reader: &mut Reader<'_>) -> Result<Path,
 {
     let mut path = Path::top(alloc);
     for _ in 0..depth {
-        path = read_below(alloc, &path, reader)?;
+        path = read_below(alloc, path, reader)?;
     }
     Ok(path)
 }
 
 /// Reads a name, and gives the path one name further down.
-fn read_below(alloc: Global, path: &Path, reader: &mut Reader<'_>) -> Result<Path, RecordFault>
-    requires { length path.now < 32 }
+fn read_below(alloc: Global, path: Path, reader: &mut Reader<'_>) -> Result<Path, RecordFault>
+    requires { length path < 32 }
     ensures { MatchResult result
-        (λ below. (name : List ℕ) × (below ≡ path.now ++ name ∷ [])
+        (λ below. (name : List ℕ) × (below ≡ path ++ name ∷ [])
         × (formats.name.reading reader.old ≡ Ok (name, reader.new)))
         (λ fault. (fault ≡ RecordFault.Memory) ⊎ (formats.name.reading reader.old ≡ Err fault)) }
 {
     let name = read_part(alloc, reader)?;
-    match path.join(alloc, &name) {
+    match path.down(name) {
         Ok(below) => Ok(below),
         Err(PathFault::Memory) => Err(RecordFault::Memory),
         Err(_) => Err(RecordFault::BadField),

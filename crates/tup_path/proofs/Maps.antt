@@ -1,6 +1,6 @@
 -- What follows of finite maps, for whoever keeps one: entries that differ at one key make maps that differ there, and a list
 -- in order is its map's.
-use Rattle.std.specs.Prelude.{◌≡◌, Bool, cond, List, [], ◌∷◌, Option, None, Some, map, length}
+use Rattle.std.specs.Prelude.{◌≡◌, cond, List, [], ◌∷◌, None, Some, map, length}
 use Rattle.std.proofs.Common.{refl, sym, ap, ◌∙◌, arith}
 use Rattle.std.specs.declared.cmp.Ordering.{Ordering}
 use Rattle.std.specs.Ordering.{eq_by_cmp}

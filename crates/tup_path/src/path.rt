@@ -86,6 +86,15 @@ impl Path {
         Ok(path)
     }
 
+    /// The same path with one name more, which is given away. It is refused as in `join`.
+    pub fn down(self, name: Text) -> Result<Path, PathFault>
+        ensures { GivesUnless result PathFault.Memory (below self name) }
+    {
+        let mut path = self;
+        path.go_down(name)?;
+        Ok(path)
+    }
+
     /// How many names the path has; 0 is the top directory.
     pub fn depth(&self) -> usize
         ensures depth { result ≡ length self.now }
@@ -200,16 +209,27 @@ impl Path {
             (λ fault. (fault ≡ PathFault.Memory) ⊎ (below self.old name.now ≡ Err fault)) }
         ensures kept { OnErr result (self.new ≡ self.old) }
     {
-        if name.len() > MAX_NAME {
+        self.go_down(Text::from_str(alloc, name)?)
+    }
+
+    /// The same with a name that is given away.
+    fn go_down(&mut self, name: Text) -> Result<(), PathFault>
+        ensures way { MatchResult result
+            (λ _. below self.old name ≡ Ok self.new)
+            (λ fault. (fault ≡ PathFault.Memory) ⊎ (below self.old name ≡ Err fault)) }
+        ensures kept { OnErr result (self.new ≡ self.old) }
+    {
+        let text = name.as_str();
+        if text.len() > MAX_NAME {
             return Err(PathFault::TooLong);
         }
-        if !is_visible(name) {
+        if !is_visible(text) {
             return Err(PathFault::Hidden);
         }
         if self.names.len() >= MAX_DEPTH {
             return Err(PathFault::TooLong);
         }
-        self.names.push(Text::from_str(alloc, name)?)?;
+        self.names.push(name)?;
         Ok(())
     }
 

@@ -1,4 +1,4 @@
-use Rattle.std.proofs.Common.{◌≡◌, ℕ, List, ◌++◌, Result, Ok, Err, OnOk, OnErr, IsUtf8, sym, subst, refl}
+use Rattle.std.proofs.Common.{◌≡◌, ℕ, List, ◌++◌, Result, Ok, Err, OnOk, OnErr, IsUtf8, sym, subst}
 use Rattle.std.proofs.lemmas.Str.{IsUtf8-append}
 use Rattle.tup_path.proofs.text.Text.push_str.Goals as goal
 
