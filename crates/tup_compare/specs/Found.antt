@@ -5,7 +5,7 @@ use Rattle.tup_path.specs.Count.{Rose}
 use Rattle.tup_path.specs.Name.{Names, Content}
 use Rattle.tup_path.specs.Tree.{Tree}
 use Rattle.tup_site.specs.World.{World}
-use Rattle.tup_site.specs.Cause.{IsTooLarge}
+use Rattle.tup_site.specs.Cause.{IsTooLarge, most_bytes}
 use Rattle.tup_site.specs.declared.fault.SiteFailed.{SiteFailed}
 use Rattle.tup_site.specs.declared.fault.SiteFailed.TheVariants.{Fault, TooLarge, Memory}
 use Rattle.tup_rule.specs.Rule.{among}
@@ -76,4 +76,4 @@ NamesALargeFile tree result = (n : ℕ) → result ≡ Err (TooLarge n) → HasF
 pub record HandsOn {T E : Type 0} (handed : SiteFailed → E) (before now : ℕ) (result : Result T E) : Type 0 where
   pub fault : result ≡ Err (handed Fault) → Rose before now
   pub steady : result ≢ Err (handed Fault) → now ≡ before
-  pub too_large : (n : ℕ) → result ≡ Err (handed (TooLarge n)) → 16777216 < n
+  pub too_large : (n : ℕ) → result ≡ Err (handed (TooLarge n)) → most_bytes < n

@@ -2,6 +2,7 @@
 -- a limit only where it is passed.
 use Rattle.std.specs.Prelude.{◌≡◌, ◌<◌, ⊤, ℕ, false, List, length, slice_get, Option, None, Some}
 use Rattle.tup_path.specs.Count.{Rose}
+use Rattle.tup_site.specs.Cause.{most_bytes}
 use Rattle.tup_site.specs.World.{World}
 use Rattle.tup_site.specs.declared.fault.SiteFailed.TheVariants.{Fault as SiteFault, TooLarge, Memory}
 use Rattle.tup_scan.specs.Cause.{IsWithinLimits}
@@ -21,7 +22,7 @@ PassesLimit fault = ⊤
 -- by the site's count: it rises where the site is blamed, and nowhere else
 abbrev pub HasCountedCause : ℕ → ℕ → Option Stop → Type 0
 HasCountedCause before now (Some (Outside SiteFault)) = Rose before now
-HasCountedCause before now (Some (Outside (TooLarge n))) = (now ≡ before) × (16777216 < n)
+HasCountedCause before now (Some (Outside (TooLarge n))) = (now ≡ before) × (most_bytes < n)
 HasCountedCause before now (Some (Outside Memory)) = now ≡ before
 HasCountedCause before now (Some (Bad name verdict)) = (now ≡ before) × (is_good (Some verdict) ≡ false)
 HasCountedCause before now (Some NoStore) = now ≡ before
@@ -42,7 +43,7 @@ HasRunCause before now stopped = now ≡ before
 -- was stopped before its rules.
 abbrev pub HasSharedCause : ℕ → ℕ → Option Stop → Type 0
 HasSharedCause before now (Some (Outside SiteFault)) = Rose before now
-HasSharedCause before now (Some (Outside (TooLarge n))) = 16777216 < n
+HasSharedCause before now (Some (Outside (TooLarge n))) = most_bytes < n
 HasSharedCause before now (Some (Outside Memory)) = ⊤
 HasSharedCause before now (Some (Bad name verdict)) = is_good (Some verdict) ≡ false
 HasSharedCause before now (Some NoStore) = now ≡ before

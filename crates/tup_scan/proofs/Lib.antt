@@ -1,2 +1,2 @@
-mod Keys
-mod Refused
+pub mod Keys
+pub mod Refused

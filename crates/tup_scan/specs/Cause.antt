@@ -3,7 +3,7 @@ use Rattle.std.specs.Prelude.{◌≡◌, ℕ, ◌≤◌, ◌<◌, length, All, R
 use Rattle.std.specs.FinMap as finite
 use Rattle.tup_path.specs.Name.{Names}
 use Rattle.tup_path.specs.Tree.{Tree}
-use Rattle.tup_site.specs.Cause.{Counts, IsSmall, IsTooLarge}
+use Rattle.tup_site.specs.Cause.{Counts, IsSmall, IsTooLarge, most_bytes}
 use Rattle.tup_site.specs.declared.fault.SiteFailed.{SiteFailed}
 use Rattle.tup_site.specs.declared.fault.SiteFailed.TheVariants.{Fault, TooLarge as SiteTooLarge, Memory as SiteMemory}
 use Rattle.tup_scan.specs.declared.fault.ScanFault.{ScanFault}
@@ -22,7 +22,7 @@ CountsFaults before now result = Counts Site before now result
 -- numbers that are told are above the limits
 pub record IsAbove {T : Type 0} (result : Result T ScanFault) : Type 0 where
   pub files : (n : ℕ) → result ≡ Err (TooManyFiles n) → 65536 < n
-  pub bytes : (n : ℕ) → result ≡ Err (TooLarge n) → 16777216 < n
+  pub bytes : (n : ℕ) → result ≡ Err (TooLarge n) → most_bytes < n
 
 -- and they are those of this tree: a length is that of one of its files
 pub record IsOf {T : Type 0} (tree : Tree) (result : Result T ScanFault) : Type 0 where

@@ -12,5 +12,6 @@ pub mod Moments
 pub mod Places
 pub mod Sound
 pub mod Standing
+pub mod Tearing
 pub mod Torn
 pub mod Trees

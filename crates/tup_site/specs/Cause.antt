@@ -21,13 +21,17 @@ CountsFaults before now result = Counts Fault before now result
 abbrev pub NeverTooLarge : {T : Type 0} → Result T SiteFailed → Type 0
 NeverTooLarge result = (n : ℕ) → result ≢ Err (TooLarge n)
 
+-- a file that is read has at most so many bytes: 16 MiB
+abbrev pub most_bytes : ℕ
+most_bytes = 16777216
+
 -- what was read of a file, if it is there, isn't longer than a file may be
 abbrev pub IsSmall : Option Content → Type 0
-IsSmall found = (content : Content) → found ≡ Some content → length content ≤ 16777216
+IsSmall found = (content : Content) → found ≡ Some content → length content ≤ most_bytes
 
 -- only a file that is longer than a file may be is too large, as this fault tells it
 abbrev pub TellsLarge : {T F : Type 0} → (ℕ → F) → Result T F → Type 0
-TellsLarge large result = (n : ℕ) → result ≡ Err (large n) → 16777216 < n
+TellsLarge large result = (n : ℕ) → result ≡ Err (large n) → most_bytes < n
 
 -- the same of what a site itself answers
 abbrev pub OnlyLarge : {T : Type 0} → Result T SiteFailed → Type 0

@@ -60,6 +60,19 @@ impl MemSite {
         Ok(())
     }
 
+    /// Refuses a choice that a crash now can't leave.
+    pub(crate) fn allow(&self, choice: &Choice) -> Result<(), MemRefused>
+        ensures is_choice { OnOk result (IsChoice (tree_in self.now) choice.now.tree) }
+        ensures leaves { OnOk result (MayLeave self.now choice.now) }
+    {
+        let files = self.chosen_tree(choice.tree.as_slice())?;
+        self.chosen_known(choice.tree.as_slice())?;
+        if !self.may_leave(&files, choice) {
+            return Err(MemRefused::NotAnImage);
+        }
+        Ok(())
+    }
+
     // Changes all to what a crash left, and notes it.
     fn leave(
         &mut self,

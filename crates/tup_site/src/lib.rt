@@ -17,6 +17,7 @@ mod memory_calls;
 mod place;
 mod refused;
 mod site;
+mod tear;
 mod unsettled;
 
 pub use choice::{Changed, Choice, Deed};
@@ -24,3 +25,4 @@ pub use fault::{MAX_FILE_BYTES, SiteFailed};
 pub use memory::MemSite;
 pub use refused::MemRefused;
 pub use site::Site;
+pub use tear::Tear;
