@@ -1,5 +1,5 @@
 -- What a site over real files answers, and what it keeps of its failures. Own.
-use Rattle.std.specs.Prelude.{◌≡◌, ℕ, ◌+◌, ◌≤◌, Option, Some, Result, Ok, Err}
+use Rattle.std.specs.Prelude.{◌≡◌, ℕ, ◌+◌, ◌≤◌, Option, None, Some, Result, Ok, Err}
 use Rattle.tup_disk.specs.declared.failure.Failure.{Failure}
 use Rattle.tup_disk.specs.declared.failure.Refused.{Refused}
 use Rattle.tup_disk.specs.declared.failure.Refused.TheVariants.{Memory, Failed}
@@ -26,3 +26,9 @@ abbrev pub last_after : {T : Type 0} → Result T Refused → Option Failure →
 last_after (Ok value) before = before
 last_after (Err Memory) before = before
 last_after (Err (Failed failure)) before = Some failure
+
+-- the same after the answer of a sync, which may be refused for what was lost before: the one before, or else the one that it
+-- names
+abbrev pub last_after_sync : {T : Type 0} → Result T Refused → Option Failure → Option Failure
+last_after_sync answer None = last_after answer None
+last_after_sync answer (Some before) = Some before

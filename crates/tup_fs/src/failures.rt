@@ -1,11 +1,11 @@
 //! The failures of a site, counted.
 ghost use Rattle.std.specs.Prelude.{◌≡◌, Ok, IfOk, IfErr, is_some, nat_lt};
-ghost use Rattle.tup_fs.specs.Last.{last_after, CountsPlainly, IsRefusalOf};
+ghost use Rattle.tup_fs.specs.Last.{last_after, last_after_sync, CountsPlainly, IsRefusalOf};
 
 use tup_disk::{Failure, Refused};
 use tup_site::SiteFailed;
 
-/// How often the system has failed, and its last failure.
+/// How often the system has failed, and its last failure; but of syncs behind a failure, that one.
 #[derive(Drop)]
 pub(crate) struct Failures {
     last: Option<Failure>,
@@ -50,6 +50,23 @@ impl Failures {
                 self.count = self.count.saturating_add(1);
                 Err(SiteFailed::Fault)
             }
+        }
+    }
+
+    /// The answer of a sync. It may be refused for what an earlier failure lost, so its failure is
+    /// kept only where there is none.
+    pub fn told_of_sync(&mut self, answer: Result<(), Refused>) -> Result<(), SiteFailed>
+        ensures cause { CountsPlainly self.old.count self.new.count result }
+        ensures value { IfOk result (λ value. answer ≡ Ok value) }
+        ensures error { IfErr result (IsRefusalOf answer) }
+        ensures last { self.new.last ≡ last_after_sync answer self.old.last }
+    {
+        match answer {
+            Err(Refused::Failed(_)) if self.last.is_some() => {
+                self.count = self.count.saturating_add(1);
+                Err(SiteFailed::Fault)
+            }
+            answer => self.told(answer),
         }
     }
 }

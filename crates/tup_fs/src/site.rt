@@ -55,7 +55,8 @@ impl<R: Files<File = File> + Clone + Drop> FsSite<R> {
         })
     }
 
-    /// The last failure. There is one just where the site has counted a fault.
+    /// The last failure, or the one before a sync that failed. There is one just where the site has
+    /// counted a fault.
     pub fn last(&self) -> Option<&Failure>
         ensures { is_some result ≡ nat_lt 0 self.now.failures.count }
     {
@@ -228,7 +229,7 @@ impl<R: Files<File = File> + Clone + Drop + Send> Site for FsSite<R> {
     {
         self.begin()?;
         let done = self.touched.settle(&self.disk);
-        self.failures.told(done)
+        self.failures.told_of_sync(done)
     }
 
     fn db_len(&mut self, _alloc: Global) -> Result<u64, SiteFailed>
@@ -281,7 +282,7 @@ impl<R: Files<File = File> + Clone + Drop + Send> Site for FsSite<R> {
     {
         self.begin()?;
         let done = self.store.sync(&self.disk);
-        self.failures.told(done)
+        self.failures.told_of_sync(done)
     }
 
     fn db_cut(&mut self, _alloc: Global, len: u64) -> Result<(), SiteFailed>

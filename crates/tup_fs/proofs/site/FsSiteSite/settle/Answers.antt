@@ -4,5 +4,5 @@ use Rattle.tup_fs.proofs.site.FsSiteSite.settle.Goals as goal
 
 pub returns-clause-kept : goal.returns-clause-kept
 returns-clause-kept g c =
-    refused_as_told (c.settle-done.new.self.places ≡ c.args.self.now.touched.places) c.settle-done.result c.told.result c.told.ensures.error
+    refused_as_told (c.settle-done.new.self.places ≡ c.args.self.now.touched.places) c.settle-done.result c.told_of_sync.result c.told_of_sync.ensures.error
     (subst (λ t. OnErr c.settle-done.result (c.settle-done.new.self.places ≡ t.places)) c.begin.ensures.touched c.settle-done.ensures.kept)
