@@ -92,7 +92,7 @@ impl<R: Files<File = File> + Clone + Drop> Writes<'_, R> {
         entries: &[Entry],
     ) -> Result<(), Failure> {
         for entry in entries {
-            if !account.touched.as_slice().contains(&entry.path) {
+            if !account.touched.contains(&entry.path) {
                 self.add(alloc, &entry.path, Some(entry.kind), false)?;
             }
         }

@@ -7,7 +7,8 @@ use Rattle.std.proofs.lemmas.List.Folds.{list_any-append}
 use Rattle.tup_path.specs.Name.{Names}
 use Rattle.tup_path.specs.Order.{same_path}
 use Rattle.tup_path.proofs.Same.{same_path-decides}
-use Rattle.tup_strace.specs.Account.{is_among, with_path, nothing, asked, written, with_step}
+use Rattle.tup_strace.specs.Account.{nothing, asked, written, with_step}
+use Rattle.tup_strace.specs.Once.{is_among, with_path}
 use Rattle.tup_strace.specs.Laws.{asked_by, written_by, touched_by, asks_first, AsksAreFirst, AsksAreDistinct, AllIsTouched, TouchedAreDistinct, WrittenIsOwn}
 use Rattle.tup_strace.specs.declared.account.Account.{Account}
 use Rattle.tup_strace.specs.declared.account.Step.{Step}

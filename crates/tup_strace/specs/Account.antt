@@ -1,20 +1,12 @@
 -- The account of a command: what it asks for, each path once and none that it wrote itself before, and what it wrote, in the
 -- order of first writing.
-use Rattle.std.specs.Prelude.{Bool, if◌then◌else◌, List, [], ◌∷◌, ◌++◌, fold}
-use Rattle.std.specs.List.{list_any}
+use Rattle.std.specs.Prelude.{if◌then◌else◌, List, [], fold}
 use Rattle.tup_path.specs.Name.{Names}
 use Rattle.tup_path.specs.Order.{same_path}
+use Rattle.tup_strace.specs.Once.{is_among, with_path}
 use Rattle.tup_strace.specs.declared.account.Account.{Account}
 use Rattle.tup_strace.specs.declared.account.Step.{Step}
 use Rattle.tup_strace.specs.declared.account.Step.TheVariants.{Ask, Write, Change, Remove, Move}
-
--- whether a path is one of these
-abbrev pub is_among : Names → List Names → Bool
-is_among path paths = list_any (λ other. same_path other path) paths
-
--- a path more, where it isn't there
-abbrev pub with_path : List Names → Names → List Names
-with_path paths path = if is_among path paths then paths else paths ++ path ∷ []
 
 -- the account of a command that did nothing
 abbrev pub nothing : Account

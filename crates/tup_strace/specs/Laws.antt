@@ -3,7 +3,8 @@ use Rattle.std.specs.Prelude.{◌≡◌, ◌&&◌, ◌||◌, not, Bool, false, i
 use Rattle.std.specs.List.{list_any, IsDistinct}
 use Rattle.tup_path.specs.Name.{Names}
 use Rattle.tup_path.specs.Order.{same_path}
-use Rattle.tup_strace.specs.Account.{is_among, account_of}
+use Rattle.tup_strace.specs.Account.{account_of}
+use Rattle.tup_strace.specs.Once.{is_among}
 use Rattle.tup_strace.specs.declared.account.Step.{Step}
 use Rattle.tup_strace.specs.declared.account.Step.TheVariants.{Ask, Write, Change, Remove, Move}
 

@@ -1,3 +1,4 @@
+pub mod Once
 pub mod Names
 pub mod Said
 pub mod Acts

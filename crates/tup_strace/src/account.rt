@@ -2,9 +2,11 @@
 ghost use Rattle.std.specs.Prelude.{◌≡◌, OnOk, IfOk};
 ghost use Rattle.tup_strace.specs.Account as specs;
 ghost use Rattle.tup_strace.specs.Account.{with_step, account_of};
+ghost use Rattle.tup_strace.specs.Once.{is_among};
 
+use crate::once::Once;
 use std::alloc::{AllocError, Global};
-use tup_path::{Path, Paths};
+use tup_path::Path;
 
 /// What a command does to a path.
 #[derive(Drop)]
@@ -25,11 +27,11 @@ pub enum Step {
 #[derive(Drop)]
 pub struct Account {
     /// What it asks for, in order, each path once.
-    pub asks: Paths,
+    pub asks: Once,
     /// What it wrote, made, removed or may have changed, in the order in which it first did.
-    pub touched: Paths,
+    pub touched: Once,
     /// What it surely wrote, made or removed; it isn't asked for afterwards.
-    pub own: Paths,
+    pub own: Once,
 }
 
 /// The account of what was done, step by step.
@@ -49,9 +51,9 @@ impl Account {
         ensures { result ≡ specs.nothing }
     {
         Account {
-            asks: Paths::new(alloc),
-            touched: Paths::new(alloc),
-            own: Paths::new(alloc),
+            asks: Once::new(alloc),
+            touched: Once::new(alloc),
+            own: Once::new(alloc),
         }
     }
 
@@ -70,9 +72,9 @@ impl Account {
 
     /// Whether the command wrote, made or removed a path itself.
     pub fn is_own(&self, path: &Path) -> bool
-        ensures { result ≡ specs.is_among path.now self.now.own }
+        ensures { result ≡ is_among path.now self.now.own }
     {
-        self.own.as_slice().contains(path)
+        self.own.contains(path)
     }
 
     /// Adds an ask.
@@ -82,7 +84,7 @@ impl Account {
         if self.is_own(path) {
             Ok(())
         } else {
-            add_path(&mut self.asks, path)
+            self.asks.add(path)
         }
     }
 
@@ -90,8 +92,8 @@ impl Account {
     fn write(&mut self, path: &Path) -> Result<(), AllocError>
         ensures { OnOk result (self.new ≡ specs.written self.old path.now) }
     {
-        add_path(&mut self.touched, path)?;
-        add_path(&mut self.own, path)
+        self.touched.add(path)?;
+        self.own.add(path)
     }
 
     /// Adds an ask, and what may be a write.
@@ -99,7 +101,7 @@ impl Account {
         ensures { OnOk result (self.new ≡ specs.touched (specs.asked self.old path.now) path.now) }
     {
         self.ask(path)?;
-        add_path(&mut self.touched, path)
+        self.touched.add(path)
     }
 
     /// Adds a removal.
@@ -121,16 +123,4 @@ impl Account {
         self.write(to)?;
         self.write(from)
     }
-}
-
-/// Adds a path to others, where it isn't there.
-fn add_path(paths: &mut Paths, path: &Path) -> Result<(), AllocError>
-    ensures { OnOk result (paths.new ≡ specs.with_path paths.old path.now) }
-{
-    if paths.as_slice().contains(path) {
-        return Ok(());
-    }
-    let path = path.clone()?;
-    paths.push(path)?;
-    Ok(())
 }

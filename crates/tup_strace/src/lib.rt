@@ -12,10 +12,12 @@ mod act;
 mod acts;
 mod laws;
 mod names;
+mod once;
 mod said;
 mod watch;
 
 pub use account::{Account, Step, accounted};
 pub use act::Act;
 pub use laws::accounts_tell;
+pub use once::Once;
 pub use watch::acts_of;
