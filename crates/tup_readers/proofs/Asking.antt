@@ -1,4 +1,4 @@
--- Askers of all kinds with one more, and with one less.
+-- Askers of all kinds with one more.
 use Rattle.std.specs.Prelude.{◌≡◌, ◌⊎◌, ◌↔◌, ℕ, Bool, true, false, List, [], Option}
 use Rattle.std.proofs.Common.{refl, sym, subst, ◌∙◌, inl, inr}
 use Rattle.std.specs.BTreeSet.{BTreeSet}
@@ -6,7 +6,7 @@ use Rattle.tup_path.specs.Name.{Names}
 use Rattle.tup_path.specs.Order.{by_bytes, by_names}
 use Rattle.tup_rule.specs.declared.question.Question.{Question}
 use Rattle.tup_rule.specs.declared.question.Question.TheVariants as asks
-use Rattle.tup_readers.specs.Changes.{Adds, Takes}
+use Rattle.tup_readers.specs.Changes.{Adds}
 use Rattle.tup_readers.specs.Index.{HasAsker, askers_of}
 use Rattle.tup_readers.specs.Sets.{Has, has, is_in}
 use Rattle.tup_readers.specs.declared.askers.Askers.{Askers}
@@ -34,13 +34,6 @@ other_added old new dir question other d apart same = (
     | inl was ↦ subst (λ (o : Option (BTreeSet Names)). is_in by_names o d ≡ true) (sym same) was
     | inr is ↦ absurd (apart (λ i. (is i).0))
   ],
-)
-
-other_taken : (old new : Askers) (dir : Names) (question other : Question) (d : Names) → (other ≡ question → ⊥) → askers_of new other ≡ askers_of old other
-    → HasAsker new (other, d) ↔ (HasAsker old (other, d) × (◌≡◌ {A = Question × Names} (other, d) (question, dir) → ⊥))
-other_taken old new dir question other d apart same = (
-  λ now. (subst (λ (o : Option (BTreeSet Names)). is_in by_names o d ≡ true) same now, λ is. apart (λ i. (is i).0)),
-  λ kept. subst (λ (o : Option (BTreeSet Names)). is_in by_names o d ≡ true) (sym same) kept.0,
 )
 
 module _ (old : Askers) (dir : Names) where
@@ -82,46 +75,6 @@ module _ (old : Askers) (dir : Names) where
   kind_added path sets adds (asks.Kind other, d) = (
     λ now. elim ((adds (other, d)).0 now) [ inl was ↦ inl was | inr is ↦ inr (λ i. (asks.Kind (is i).0, (is i).1)) ],
     λ e. elim e [ inl was ↦ (adds (other, d)).1 (inl was) | inr is ↦ (adds (other, d)).1 (inr (λ i. (place (is i).0, (is i).1))) ],
-  )
-
-  pub content_taken : (path : Names) (sets : Sets Names Names) → Takes (λ (x : Names × Names). x ≡ (path, dir)) (Has by_names by_names old.contents) (Has by_names by_names sets)
-      → Takes (λ (x : Question × Names). x ≡ (asks.Content path, dir)) (HasAsker old) (HasAsker (record old { contents = sets }))
-  content_taken path sets takes (asks.Content other, d) = (
-    λ now. let kept = (takes (other, d)).0 now in (kept.0, λ is. kept.1 (λ i. (place (is i).0, (is i).1))),
-    λ kept. (takes (other, d)).1 (kept.0, λ is. kept.1 (λ i. (asks.Content (is i).0, (is i).1))),
-  )
-  content_taken path sets takes (asks.Config other, d) = other_taken old (record old { contents = sets }) dir (asks.Content path) (asks.Config other) d (λ e. let no : asks.Config other ≡ asks.Content path = e in cc) refl
-  content_taken path sets takes (asks.Names other, d) = other_taken old (record old { contents = sets }) dir (asks.Content path) (asks.Names other) d (λ e. let no : asks.Names other ≡ asks.Content path = e in cc) refl
-  content_taken path sets takes (asks.Kind other, d) = other_taken old (record old { contents = sets }) dir (asks.Content path) (asks.Kind other) d (λ e. let no : asks.Kind other ≡ asks.Content path = e in cc) refl
-
-  pub config_taken : (text : List ℕ) (sets : Sets (List ℕ) Names) → Takes (λ (x : List ℕ × Names). x ≡ (text, dir)) (Has by_bytes by_names old.configs) (Has by_bytes by_names sets)
-      → Takes (λ (x : Question × Names). x ≡ (asks.Config text, dir)) (HasAsker old) (HasAsker (record old { configs = sets }))
-  config_taken text sets takes (asks.Content other, d) = other_taken old (record old { configs = sets }) dir (asks.Config text) (asks.Content other) d (λ e. let no : asks.Content other ≡ asks.Config text = e in cc) refl
-  config_taken text sets takes (asks.Config other, d) = (
-    λ now. let kept = (takes (other, d)).0 now in (kept.0, λ is. kept.1 (λ i. (name (is i).0, (is i).1))),
-    λ kept. (takes (other, d)).1 (kept.0, λ is. kept.1 (λ i. (asks.Config (is i).0, (is i).1))),
-  )
-  config_taken text sets takes (asks.Names other, d) = other_taken old (record old { configs = sets }) dir (asks.Config text) (asks.Names other) d (λ e. let no : asks.Names other ≡ asks.Config text = e in cc) refl
-  config_taken text sets takes (asks.Kind other, d) = other_taken old (record old { configs = sets }) dir (asks.Config text) (asks.Kind other) d (λ e. let no : asks.Kind other ≡ asks.Config text = e in cc) refl
-
-  pub names_taken : (folder : Names) (sets : Sets Names Names) → Takes (λ (x : Names × Names). x ≡ (folder, dir)) (Has by_names by_names old.names) (Has by_names by_names sets)
-      → Takes (λ (x : Question × Names). x ≡ (asks.Names folder, dir)) (HasAsker old) (HasAsker (record old { names = sets }))
-  names_taken folder sets takes (asks.Content other, d) = other_taken old (record old { names = sets }) dir (asks.Names folder) (asks.Content other) d (λ e. let no : asks.Content other ≡ asks.Names folder = e in cc) refl
-  names_taken folder sets takes (asks.Config other, d) = other_taken old (record old { names = sets }) dir (asks.Names folder) (asks.Config other) d (λ e. let no : asks.Config other ≡ asks.Names folder = e in cc) refl
-  names_taken folder sets takes (asks.Names other, d) = (
-    λ now. let kept = (takes (other, d)).0 now in (kept.0, λ is. kept.1 (λ i. (place (is i).0, (is i).1))),
-    λ kept. (takes (other, d)).1 (kept.0, λ is. kept.1 (λ i. (asks.Names (is i).0, (is i).1))),
-  )
-  names_taken folder sets takes (asks.Kind other, d) = other_taken old (record old { names = sets }) dir (asks.Names folder) (asks.Kind other) d (λ e. let no : asks.Kind other ≡ asks.Names folder = e in cc) refl
-
-  pub kind_taken : (path : Names) (sets : Sets Names Names) → Takes (λ (x : Names × Names). x ≡ (path, dir)) (Has by_names by_names old.kinds) (Has by_names by_names sets)
-      → Takes (λ (x : Question × Names). x ≡ (asks.Kind path, dir)) (HasAsker old) (HasAsker (record old { kinds = sets }))
-  kind_taken path sets takes (asks.Content other, d) = other_taken old (record old { kinds = sets }) dir (asks.Kind path) (asks.Content other) d (λ e. let no : asks.Content other ≡ asks.Kind path = e in cc) refl
-  kind_taken path sets takes (asks.Config other, d) = other_taken old (record old { kinds = sets }) dir (asks.Kind path) (asks.Config other) d (λ e. let no : asks.Config other ≡ asks.Kind path = e in cc) refl
-  kind_taken path sets takes (asks.Names other, d) = other_taken old (record old { kinds = sets }) dir (asks.Kind path) (asks.Names other) d (λ e. let no : asks.Names other ≡ asks.Kind path = e in cc) refl
-  kind_taken path sets takes (asks.Kind other, d) = (
-    λ now. let kept = (takes (other, d)).0 now in (kept.0, λ is. kept.1 (λ i. (place (is i).0, (is i).1))),
-    λ kept. (takes (other, d)).1 (kept.0, λ is. kept.1 (λ i. (asks.Kind (is i).0, (is i).1))),
   )
 
 -- where no key has a value, nobody asked anything

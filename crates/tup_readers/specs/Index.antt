@@ -16,7 +16,6 @@ use Rattle.tup_graph.specs.Graph.{GraphState}
 use Rattle.tup_readers.specs.Records.{AreIn}
 use Rattle.tup_readers.specs.Sets.{Has, is_in}
 use Rattle.tup_readers.specs.declared.askers.Askers.{Askers}
-use Rattle.tup_readers.specs.declared.index.Index.{Index}
 use Rattle.tup_readers.specs.declared.users.Users.{Users}
 
 -- the reading of a folder asked a question
@@ -85,7 +84,3 @@ HasAsker askers (question, dir) = is_in by_names (askers_of askers question) dir
 -- just the folders whose readings asked a question are its askers
 abbrev pub AreAskers : finite.FinMap by_names Reading → Askers → Type 0
 AreAskers readings askers = (x : Question × Names) → HasAsker askers x ↔ AreIn question_of asked_of readings x
-
--- an index of a graph: it has just those who asked, by the records of the graph
-abbrev pub IsIndexOf : GraphState → Index → Type 0
-IsIndexOf g index = AreUsers g.runs index.users × AreAskers g.readings index.askers

@@ -2,7 +2,7 @@
 ghost use Rattle.std.specs.Prelude.{◌≡◌, OnOk, IfOk};
 ghost use Rattle.std.specs.FinMap as finite;
 ghost use Rattle.std.specs.Option.{option_copied};
-ghost use Rattle.tup_readers.specs.Changes.{Adds, Takes};
+ghost use Rattle.tup_readers.specs.Changes.{Adds};
 ghost use Rattle.tup_readers.specs.Index.{AreAskers, HasAsker, askers_of, asked_of, question_of};
 ghost use Rattle.tup_readers.specs.Records.{AreOf};
 
@@ -58,33 +58,6 @@ impl Askers {
         }
     }
 
-    /// A reading left this from now on, in the place of what it left before.
-    pub(crate) fn put(
-        &mut self,
-        alloc: Global,
-        nodes: &Nodes,
-        dir: &Path,
-        reading: &Reading,
-    ) -> Result<(), AllocError>
-        requires { AreAskers nodes.now.readings self.old }
-        ensures { OnOk result
-            (AreAskers (finite.insert nodes.now.readings dir.now reading.now) self.new) }
-    {
-        self.leave_out(nodes, dir);
-        self.add(alloc, dir, reading)
-    }
-
-    /// A folder has no reading from now on.
-    pub(crate) fn leave_out(&mut self, nodes: &Nodes, dir: &Path)
-        requires { AreAskers nodes.now.readings self.old }
-        ensures { AreAskers (finite.remove nodes.now.readings dir.now) self.new }
-    {
-        match nodes.reading(dir) {
-            Some(reading) => self.remove(dir, reading),
-            None => {}
-        }
-    }
-
     /// Adds a folder to the askers of what its reading asked.
     fn add(&mut self, alloc: Global, dir: &Path, reading: &Reading) -> Result<(), AllocError>
         ensures { OnOk result (Adds (AreOf question_of (asked_of reading.now) dir.now)
@@ -106,28 +79,6 @@ impl Askers {
             Question::Config(name) => self.configs.add(alloc, name.clone()?, dir),
             Question::Names(folder) => self.names.add(alloc, folder.clone()?, dir),
             Question::Kind(path) => self.kinds.add(alloc, path.clone()?, dir),
-        }
-    }
-
-    /// Takes a folder from the askers of what its reading asked.
-    fn remove(&mut self, dir: &Path, reading: &Reading)
-        ensures { Takes (AreOf question_of (asked_of reading.now) dir.now)
-            (HasAsker self.old) (HasAsker self.new) }
-    {
-        for (question, _) in reading.asked.as_slice() {
-            self.remove_one(question, dir);
-        }
-    }
-
-    /// Takes a folder from the askers of a question.
-    fn remove_one(&mut self, question: &Question, dir: &Path)
-        ensures { Takes (λ x. x ≡ (question.now, dir.now)) (HasAsker self.old) (HasAsker self.new) }
-    {
-        match question {
-            Question::Content(path) => self.contents.remove(path, dir),
-            Question::Config(name) => self.configs.remove(name, dir),
-            Question::Names(folder) => self.names.remove(folder, dir),
-            Question::Kind(path) => self.kinds.remove(path, dir),
         }
     }
 }

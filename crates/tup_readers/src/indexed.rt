@@ -12,8 +12,9 @@ ghost use Rattle.tup_readers.specs.Suspects.{HasAllOthers};
 ghost use Rattle.tup_path.specs.Name.{Names};
 ghost use Rattle.tup_path.specs.Order.{by_names};
 
-use crate::index::Index;
+use crate::askers::Askers;
 use crate::suspects::Suspects;
+use crate::users::Users;
 use std::alloc::{AllocError, Global};
 use std::collections::BTreeSet;
 use std::marker::Model;
@@ -22,20 +23,19 @@ use tup_graph::{Edit, Edits, GraphFault, Nodes};
 use tup_path::{Items, Path};
 use tup_rule::Question;
 
-/// The nodes of a graph with the maps from each path to the rules whose records ask or wrote it, and from each question to
-/// the folders whose readings asked it, and with the rules whose records may no longer tell what is seen. Contracts see the
-/// nodes; the rest is always what their records give.
+/// The nodes of a graph with the maps from each path to the rules whose records ask or wrote it, and with the rules whose
+/// records may no longer tell what is seen. Contracts see the nodes; the rest is always what their records give.
 #[derive(Drop)]
 pub struct Indexed {
     nodes: Nodes,
-    index: Index,
+    users: Users,
     suspects: Suspects,
 }
 
 impl Model for Indexed {
     ghost use Rattle.tup_graph.specs.Graph.{GraphState};
     ghost use Rattle.tup_graph.specs.contracts.nodes.Nodes as of_nodes;
-    ghost use Rattle.tup_readers.specs.Index.{IsIndexOf};
+    ghost use Rattle.tup_readers.specs.Index.{AreUsers};
     ghost use Rattle.tup_readers.specs.Suspects.{AreSuspects};
 
     ghost Value = { GraphState };
@@ -44,7 +44,7 @@ impl Model for Indexed {
 
     ghost view = { λ i. i.nodes };
 
-    ghost invariant = { λ i. IsIndexOf i.nodes i.index
+    ghost invariant = { λ i. AreUsers i.nodes.runs i.users
         × AreSuspects i.nodes.seen i.nodes.runs i.suspects };
 }
 
@@ -55,7 +55,7 @@ impl Indexed {
     {
         Indexed {
             nodes: Nodes::empty(alloc),
-            index: Index::new(alloc),
+            users: Users::new(alloc),
             suspects: Suspects::new(alloc),
         }
     }
@@ -65,11 +65,11 @@ impl Indexed {
         ensures nodes { IfOk result (λ indexed. indexed ≡ nodes) }
         ensures memory { IfErr result (λ fault. fault ≡ GraphFault.Memory) }
     {
-        let index = Index::of_nodes(alloc, &nodes)?;
+        let users = Users::of_nodes(alloc, &nodes)?;
         let suspects = Suspects::of_nodes(alloc, &nodes)?;
         Ok(Indexed {
             nodes,
-            index,
+            users,
             suspects,
         })
     }
@@ -86,7 +86,7 @@ impl Indexed {
         ensures { (number : ℕ) → (is_in nat_cmp (option_copied result) number ≡ true)
             ↔ HasAsked self.now number path.now }
     {
-        self.index.users.readers(path)
+        self.users.readers(path)
     }
 
     /// The rules whose records wrote a path, where there are some.
@@ -94,7 +94,7 @@ impl Indexed {
         ensures { (number : ℕ) → (is_in nat_cmp (option_copied result) number ≡ true)
             ↔ HasWritten self.now number path.now }
     {
-        self.index.users.writers(path)
+        self.users.writers(path)
     }
 
     /// Rules whose records may tell other stamps than those that are seen; all that do are among them.
@@ -111,20 +111,21 @@ impl Indexed {
         ensures ascending { IfOk result (λ numbers. IsStrictlySortedBy nat_cmp numbers.items) }
         ensures memory { IfErr result (λ fault. fault ≡ GraphFault.Memory) }
     {
-        match self.index.users.readers(path) {
+        match self.users.readers(path) {
             Some(numbers) => Ok(listed_numbers(alloc, numbers)?),
             None => Ok(Vec::new(alloc)),
         }
     }
 
-    /// The folders whose readings asked a question, in the order of paths.
+    /// The folders whose readings asked a question, in the order of paths. It goes through all readings.
     pub fn asked_by(&self, alloc: Global, question: &Question) -> Result<Vec<Path>, GraphFault>
         ensures folders { IfOk result (λ dirs. (dir : Names)
             → Contains dirs.items dir ↔ HasQuestioned self.now dir question.now) }
         ensures ascending { IfOk result (λ dirs. IsStrictlySortedBy by_names dirs.items) }
         ensures memory { IfErr result (λ fault. fault ≡ GraphFault.Memory) }
     {
-        match self.index.askers.of(question) {
+        let askers = Askers::of_nodes(alloc, &self.nodes)?;
+        match askers.of(question) {
             Some(dirs) => Ok(listed_paths(alloc, dirs)?),
             None => Ok(Vec::new(alloc)),
         }
@@ -160,17 +161,17 @@ impl Indexed {
     {
         let Indexed {
             mut nodes,
-            mut index,
+            mut users,
             mut suspects,
         } = self;
-        suspects.edit(&nodes, &index.users, &edit)?;
-        index.edit(alloc, &nodes, &edit)?;
+        suspects.edit(&nodes, &users, &edit)?;
+        users.edit(alloc, &nodes, &edit)?;
         let mut edits = Items::new(alloc);
         edits.push(edit)?;
         nodes.edit_all(alloc, edits)?;
         Ok(Indexed {
             nodes,
-            index,
+            users,
             suspects,
         })
     }

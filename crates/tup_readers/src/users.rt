@@ -4,6 +4,8 @@ ghost use Rattle.std.specs.BTreeMap.{get};
 ghost use Rattle.std.specs.FinMap as finite;
 ghost use Rattle.std.specs.Option.{option_copied};
 ghost use Rattle.std.specs.Ordering.{nat_cmp};
+ghost use Rattle.tup_graph.specs.Edits.{edited, without};
+ghost use Rattle.tup_graph.specs.Opening.{put as put_of};
 ghost use Rattle.tup_readers.specs.Changes.{Adds, Takes};
 ghost use Rattle.tup_readers.specs.Index.{AreUsers, HasReader, HasWriter, asks_of, path_of, writes_of};
 ghost use Rattle.tup_readers.specs.Records.{AreOf};
@@ -13,9 +15,9 @@ ghost use Rattle.tup_path.specs.Order.{by_names};
 use crate::sets::Sets;
 use std::alloc::{AllocError, Global};
 use std::collections::BTreeSet;
-use tup_graph::Nodes;
+use tup_graph::{Edit, Nodes};
 use tup_path::Path;
-use tup_record::RunRecord;
+use tup_record::{Record, RunRecord};
 
 /// For each path the rules whose records ask it, and those whose records wrote it.
 #[derive(Drop)]
@@ -60,8 +62,50 @@ impl Users {
         self.writers.of(path)
     }
 
+    /// Takes in what an edit does to the records of a graph, which is given as it is before. It looks at what the record
+    /// of the edit asks and wrote, and at what the one in its place did.
+    pub(crate) fn edit(
+        &mut self,
+        alloc: Global,
+        nodes: &Nodes,
+        edit: &Edit,
+    ) -> Result<(), AllocError>
+        requires { AreUsers nodes.now.runs self.old }
+        ensures { OnOk result (AreUsers (edited nodes.now edit.now).runs self.new) }
+    {
+        match edit {
+            Edit::Put(found) => self.take_in(alloc, nodes, found),
+            Edit::Remove(gone) => {
+                self.take_out(nodes, gone);
+                Ok(())
+            }
+        }
+    }
+
+    /// Takes in that a record stands, in the place of the one that stood under its key.
+    fn take_in(&mut self, alloc: Global, nodes: &Nodes, found: &Record) -> Result<(), AllocError>
+        requires { AreUsers nodes.now.runs self.old }
+        ensures { OnOk result (AreUsers (put_of nodes.now found.now).runs self.new) }
+    {
+        match found {
+            Record::Run { number, run } => self.put(alloc, nodes, *number, run),
+            _ => Ok(()),
+        }
+    }
+
+    /// Takes in that what stands under the key of a record goes.
+    fn take_out(&mut self, nodes: &Nodes, gone: &Record)
+        requires { AreUsers nodes.now.runs self.old }
+        ensures { AreUsers (without nodes.now gone.now).runs self.new }
+    {
+        match gone {
+            Record::Run { number, .. } => self.leave_out(nodes, *number),
+            _ => {}
+        }
+    }
+
     /// A rule has this record from now on, in the place of the one that it had.
-    pub(crate) fn put(
+    fn put(
         &mut self,
         alloc: Global,
         nodes: &Nodes,
@@ -76,7 +120,7 @@ impl Users {
     }
 
     /// A rule has no record from now on.
-    pub(crate) fn leave_out(&mut self, nodes: &Nodes, number: u32)
+    fn leave_out(&mut self, nodes: &Nodes, number: u32)
         requires { AreUsers nodes.now.runs self.old }
         ensures { AreUsers (finite.remove nodes.now.runs number) self.new }
     {

@@ -31,17 +31,26 @@ use Rattle.tup_scan_diff.proofs.Ordered.{none_in, in_front, behind_front, front_
 
 -- ---- entries of a map, by their keys
 
-left_of : (a b : Bool) → (a && b) ≡ true → a ≡ true
+pub left_of : (a b : Bool) → (a && b) ≡ true → a ≡ true
 left_of true b e = refl
 left_of false b e = e
 
-right_of : (a b : Bool) → (a && b) ≡ true → b ≡ true
+pub right_of : (a b : Bool) → (a && b) ≡ true → b ≡ true
 right_of true b e = e
 right_of false b e = absurd (true≢false (sym e))
 
-t_true : (b : Bool) → T b → b ≡ true
+pub t_true : (b : Bool) → T b → b ≡ true
 t_true true t = refl
 t_true false t = absurd t
+
+not_less : (o : Ordering) → is_lt o ≡ true → is_eq o ≡ true → ⊥
+not_less Less less same = true≢false (sym same)
+not_less Equal less same = true≢false (sym less)
+not_less Greater less same = true≢false (sym less)
+
+pub apart : (q k : Names) → is_lt (by_names k q) ≡ true → eq_by_cmp by_names q k ≡ false
+apart q k less = false_from_ne_true (eq_by_cmp by_names q k) (λ same.
+    not_less (by_names k q) less ((by_names-decides k q).1 (sym ((by_names-decides q k).0 same))))
 
 module _ {X : Type 0} where
   found_in : (es : List (Names × X)) (q : Names) (x : X) → find by_names q es ≡ Some x → Contains es (q, x)
@@ -54,7 +63,7 @@ module _ {X : Type 0} where
           subst (Contains (first ∷ es)) (λ i. (sym ((by_names-decides q first.0).0 same) i, value i)) (in_front first es)
       either false apart more e = behind_front first (q, x) es (more e)
 
-  above_head : (k : Names) (es : List (Names × X)) (e : Names × X) → below_all by_names k es ≡ true → Contains es e → is_lt (by_names k e.0) ≡ true
+  pub above_head : (k : Names) (es : List (Names × X)) (e : Names × X) → below_all by_names k es ≡ true → Contains es e → is_lt (by_names k e.0) ≡ true
   above_head k [] e up h = absurd (none_in e h)
   above_head k (first ∷ es) e up h = elim (front_or_behind first e es h) [
     | inl same ↦ subst (λ (x : Names × X). is_lt (by_names k x.0) ≡ true) same (left_of (is_lt (by_names k first.0)) (below_all by_names k es) up)
@@ -69,15 +78,6 @@ module _ {X : Type 0} where
         ap (λ (b : Bool). cond b (Some first.1) (find by_names e.0 es)) (apart e.0 first.0 (above_head first.0 es e (left_of (below_all by_names first.0 es) (is_sorted by_names es) up) later))
         ∙ entry_in es e (right_of (below_all by_names first.0 es) (is_sorted by_names es) up) later
   ]
-    where
-      not_less : (o : Ordering) → is_lt o ≡ true → is_eq o ≡ true → ⊥
-      not_less Less less same = true≢false (sym same)
-      not_less Equal less same = true≢false (sym less)
-      not_less Greater less same = true≢false (sym less)
-
-      apart : (q k : Names) → is_lt (by_names k q) ≡ true → eq_by_cmp by_names q k ≡ false
-      apart q k less = false_from_ne_true (eq_by_cmp by_names q k) (λ same.
-          not_less (by_names k q) less ((by_names-decides k q).1 (sym ((by_names-decides q k).0 same))))
 
   -- an entry is what its map has at its key
   pub found_entry : (m : FinMap by_names X) (q : Names) (x : X) → Contains (finite.entries m) (q, x) → finite.get m q ≡ Some x
@@ -113,6 +113,10 @@ module _ {X : Type 0} (p : X → Bool) where
         | inr behind ↦ later (more behind)
       ]
       either false fails more h = later (more h)
+
+  pub none_pass : (xs : List X) → ((x : X) → Contains xs x → p x ≡ false) → filter p xs ≡ []
+  none_pass [] none = refl
+  none_pass (first ∷ xs) none = ap (λ (b : Bool). cond b (first ∷ filter p xs) (filter p xs)) (none first (in_front first xs)) ∙ none_pass xs (λ x h. none x (behind_front first x xs h))
 
 -- ---- files that are seen, and files that are seen no longer
 

@@ -12,7 +12,7 @@ use Rattle.tup_graph.specs.Answers.{IsSource, tup_config}
 use Rattle.tup_graph.specs.Graph.{source}
 use Rattle.tup_scan_diff.specs.Index.{IsIndexOf, IsSourceAmong}
 use Rattle.tup_scan_diff.specs.Made.{AreMade}
-use Rattle.tup_scan_diff.specs.Present.{seeing, graph_of, IsPresent}
+use Rattle.tup_scan_diff.specs.Present.{seeing, graph_of, stamps_in, IsPresent}
 use Rattle.tup_scan_diff.specs.Settings.{AreSettings}
 use Rattle.tup_scan_diff.specs.declared.present.Present.{Present}
 use Rattle.tup_scan_diff.proofs.Indexed.{index_of_sources}
@@ -22,7 +22,7 @@ pub config_path_is : (path : Names) → ◌≡◌ {A = Result Names PathFault} (
 config_path_is path (inl e) = absurd (cc)
 config_path_is path (inr e) = let same : Ok path ≡ Ok tup_config = e in cc
 
-pub present_is : (present : Present) (files : List (Names × Stamp)) (config : Option Content) (stamp : Option Stamp) → present.stamps ≡ finite.from_entries files
+pub present_is : (present : Present) (files : List (Names × Stamp)) (config : Option Content) (stamp : Option Stamp) → stamps_in present ≡ finite.from_entries files
     → IsIndexOf (IsSourceAmong present.nodes.now files) present.index → AreMade present.nodes.now.readings present.made → stamp ≡ source (graph_of present) tup_config → AreSettings config stamp present.settings → IsPresent config present
 present_is present files config stamp stamps index made seen settings = record {
   index = subst (λ (m : finite.FinMap by_names Stamp). IsIndexOf (IsSource (source (seeing present.nodes.now m))) present.index) (sym stamps) (index_of_sources present.nodes.now files present.index index);

@@ -22,11 +22,11 @@ use Rattle.tup_closure.specs.declared.lists.Lists.{Lists}
 use Rattle.tup_closure.proofs.Asked.{taken}
 use Rattle.tup_closure.proofs.Growing.{grows_on, grows_as, grows_nothing}
 use Rattle.tup_closure.proofs.Members.{in_empty, in_list, listed}
-use Rattle.tup_scan_diff.specs.Index.{AddsFile, HasBelow, HasTupfile, IsAddedIf, IsIndexOf, IsSourceAmong}
+use Rattle.tup_scan_diff.specs.Index.{AddsFile, HasBelow, HasTupfile, IsAddedIf, IsClosed, IsIndexOf, IsSourceAmong}
 use Rattle.tup_scan_diff.specs.Present.{seeing}
 use Rattle.tup_scan_diff.specs.Sets.{Has}
 use Rattle.tup_scan_diff.specs.declared.index.Index.{Index}
-use Rattle.tup_scan_diff.proofs.Paths.{below_either, below_further, below_its_folder, none_below_top, one_folder, one_name}
+use Rattle.tup_scan_diff.proofs.Paths.{below_either, below_further, below_its_folder, below_through, none_below_top, one_folder, one_name}
 
 -- ---- no files
 
@@ -162,6 +162,26 @@ module _ (g : GraphState) (files : List (Names × Stamp)) where
     where
       to : (P : Type 0) (p : Names) → (P ↔ IsSourceAmong g files p) → P ↔ IsSource (source (seeing g stamps)) p
       to P p h = (λ x. is_source p (h.0 x), λ now. h.1 (source_is p (is_owned g p) refl now))
+
+-- ---- folders that are there
+
+-- with a folder of an index come all above it
+pub closed : (IsFile : Names → Type 0) (index : Index) → IsIndexOf IsFile index → IsClosed index.folders
+closed IsFile index is = λ dir above_it has below.
+    let (file, under, is_file) = (is.folders dir).0 has in
+    (is.folders above_it).1 (file, below_through above_it dir file below under, is_file)
+
+-- where the folder of a path is there, all above the path is
+pub all_there : (folders : BTreeSet Names) (path dir : Names) (name : List ℕ) → path ≡ dir ++ name ∷ [] → IsClosed folders → Has by_names folders dir
+    → Grows (λ d. IsBelow d path) (Has by_names folders) (Has by_names folders)
+all_there folders path dir name is closed has = record {
+  only = λ d there. inl there;
+  all = λ d below. elim (below_either d dir path name is below) [
+    | inl further ↦ closed dir d has further
+    | inr same ↦ subst (Has by_names folders) (sym same) has
+  ];
+  kept = λ d there. there;
+}
 
 -- ---- one file in its folder
 

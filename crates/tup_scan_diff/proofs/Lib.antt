@@ -13,3 +13,4 @@ pub mod Rooted
 pub mod Looking
 pub mod Founding
 pub mod Scanned
+pub mod Overlaid

@@ -1,5 +1,5 @@
 -- Paths by their folder and their name.
-use Rattle.std.specs.Prelude.{◌≡◌, ◌⊎◌, List, ℕ, [], ◌∷◌, ◌++◌, Ok, Result, None, Some, length}
+use Rattle.std.specs.Prelude.{◌≡◌, ◌≢◌, ◌⊎◌, List, ℕ, [], ◌∷◌, ◌++◌, Ok, Result, None, Some, length}
 use Rattle.std.proofs.Common.{refl, sym, ap, ◌∙◌, inl, inr, arith, append_assoc, length-append}
 use Rattle.std.specs.Result.{result_ok}
 use Rattle.std.proofs.lemmas.List.{append-nil, append_cancel_left}
@@ -54,6 +54,17 @@ below_further above_it dir path name is (rest, more, e) = (
   not_nothing rest name,
   is ∙ ap (λ (l : Names). l ++ name ∷ []) e ∙ append_assoc above_it rest (name ∷ []),
 )
+
+pub below_through : (above_it dir path : Names) → IsBelow above_it dir → IsBelow dir path → IsBelow above_it path
+below_through above_it dir path (rest, more, e) (others, others_more, is) = (
+  rest ++ others,
+  further rest more,
+  is ∙ ap (λ (l : Names). l ++ others) e ∙ append_assoc above_it rest others,
+)
+  where
+    further : (l : Names) → l ≢ [] → l ++ others ≢ []
+    further [] some = absurd (some refl)
+    further (x ∷ l) some = λ none. cc
 
 -- a path lies below just its folder and what that lies below
 pub below_either : (above_it dir path : Names) (name : List ℕ) → path ≡ dir ++ name ∷ [] → IsBelow above_it path → IsBelow above_it dir ⊎ (above_it ≡ dir)

@@ -15,13 +15,13 @@ use Rattle.tup_graph.specs.Graph.{GraphState}
 use Rattle.tup_graph.specs.Scan.{IsStale}
 use Rattle.tup_closure.proofs.Members.{contained, in_set}
 use Rattle.tup_scan_diff.specs.Edits.{AreScanEdits, seen_edits, create_edits, modify_edits}
-use Rattle.tup_scan_diff.specs.Present.{graph_of, seeing}
+use Rattle.tup_scan_diff.specs.Present.{graph_of, seeing, stamps_in}
 use Rattle.tup_scan_diff.specs.Sets.{Has}
 use Rattle.tup_scan_diff.specs.Touched.{IsScanRoot}
 use Rattle.tup_scan_diff.specs.declared.present.Present.{Present}
 
 module _ (nodes : GraphState) (files : List (Names × Stamp)) (config : Option Content) (present : Present) (dirs : BTreeSet Names) (numbers : List ℕ)
-    (same : present.nodes.now ≡ nodes) (stamps : present.stamps ≡ finite.from_entries files) where
+    (same : present.nodes.now ≡ nodes) (stamps : stamps_in present ≡ finite.from_entries files) where
   abbrev found : GraphState
   found = seeing nodes (finite.from_entries files)
 
@@ -29,7 +29,7 @@ module _ (nodes : GraphState) (files : List (Names × Stamp)) (config : Option C
   here = λ i. seeing (same i) (stamps i)
 
   abbrev made : List Edit
-  made = seen_edits present.nodes.now present.stamps ++ create_edits present.nodes.now dirs.keys ++ modify_edits present.nodes.now numbers
+  made = seen_edits present.nodes.now (stamps_in present) ++ create_edits present.nodes.now dirs.keys ++ modify_edits present.nodes.now numbers
 
   module _ (stale : (dir : Names) → Has by_names dirs dir ↔ IsStale (graph_of present) config dir) (once : IsOrdered by_names dirs)
       (above : (n : ℕ) → Contains numbers n ↔ IsAbove (graph_of present) (IsScanRoot (graph_of present)) n) (ascending : IsStrictlySortedBy nat_cmp numbers) where

@@ -12,11 +12,11 @@ use Rattle.tup_stamp.specs.declared.Stamp.{Stamp}
 use Rattle.tup_closure.proofs.Asked.{taken}
 
 -- what is found in a list with one entry more
-abbrev or_last : Option Stamp → Bool → Stamp → Option Stamp
+abbrev pub or_last : Option Stamp → Bool → Stamp → Option Stamp
 or_last (Some first) same last = Some first
 or_last None same last = cond same (Some last) None
 
-find_push : (files : List (Names × Stamp)) (file : Names × Stamp) (q : Names) → find by_names q (files ++ file ∷ []) ≡ or_last (find by_names q files) (eq_by_cmp by_names q file.0) file.1
+pub find_push : (files : List (Names × Stamp)) (file : Names × Stamp) (q : Names) → find by_names q (files ++ file ∷ []) ≡ or_last (find by_names q files) (eq_by_cmp by_names q file.0) file.1
 find_push [] file q = refl
 find_push (first ∷ files) file q = either (eq_by_cmp by_names q first.0) (find_push files file q)
   where

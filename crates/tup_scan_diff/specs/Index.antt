@@ -1,5 +1,6 @@
 -- Paths by their folders (own).
 use Rattle.std.specs.Prelude.{◌≡◌, ◌↔◌, Bool, true, false, Option, None, Some, List, ℕ, [], ◌∷◌, ◌++◌, Contains, map}
+use Rattle.std.specs.BTreeSet.{BTreeSet}
 use Rattle.tup_path.specs.Name.{Names}
 use Rattle.tup_path.specs.Order.{by_names}
 use Rattle.tup_path.specs.Tree.{IsBelow}
@@ -45,6 +46,10 @@ IsLastOf path name = (dir : Names) × (path ≡ dir ++ name ∷ [])
 abbrev pub IsParted : Names → Option (Names × List ℕ) → Type 0
 IsParted path None = path ≡ []
 IsParted path (Some (dir, name)) = path ≡ dir ++ name ∷ []
+
+-- with a folder come all folders above it
+abbrev pub IsClosed : BTreeSet Names → Type 0
+IsClosed folders = (dir above : Names) → Has by_names folders dir → IsBelow above dir → Has by_names folders above
 
 -- one of some files that isn't owned
 abbrev pub IsSourceAmong : GraphState → List (Names × Stamp) → Names → Type 0

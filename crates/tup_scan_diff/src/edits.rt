@@ -4,13 +4,15 @@ ghost use Rattle.std.specs.FinMap as finite;
 ghost use Rattle.tup_path.specs.Gives.{GivesUnless};
 ghost use Rattle.tup_graph.specs.Transactions.{seen_so as seen_of};
 ghost use Rattle.tup_scan_diff.specs.Edits.{seen_edits, news_edits, gone_edits, create_edits, modify_edits};
+ghost use Rattle.tup_scan_diff.specs.Present.{stamps_in};
 ghost use Rattle.tup_scan_diff.specs.Edits.{is_same, not_seen as not_seen_of, to_read as to_read_of};
 
 use crate::present::Present;
+use crate::stamps::Stamps;
 use std::alloc::Global;
 use std::collections::BTreeSet;
 use tup_graph::{Edit, Edits, GraphFault};
-use tup_path::{Items, Path};
+use tup_path::{ByPath, Items, Path};
 use tup_record::Record;
 use tup_stamp::Stamp;
 
@@ -18,12 +20,35 @@ impl Present<'_> {
     /// The edits by which files are seen as the scan found them.
     pub(crate) fn seen_edits(&self, alloc: Global) -> Result<Edits, GraphFault>
         ensures ok { IfOk result
-            (λ edits. edits ≡ seen_edits self.now.nodes.now self.now.stamps) }
+            (λ edits. edits ≡ seen_edits self.now.nodes.now (stamps_in self.now)) }
+        ensures err { IfErr result (λ fault. fault ≡ GraphFault.Memory) }
+    {
+        match &self.stamps {
+            Stamps::Edited(stamps) => self.edited(alloc, stamps),
+            Stamps::Found(stamps) => self.found(alloc, stamps),
+        }
+    }
+
+    /// The edits by which files are seen of which these have other stamps now.
+    fn edited(&self, alloc: Global, stamps: &ByPath<Stamp>) -> Result<Edits, GraphFault>
+        ensures ok { IfOk result
+            (λ edits. edits ≡ news_edits self.now.nodes.now (finite.entries stamps.now)) }
         ensures err { IfErr result (λ fault. fault ≡ GraphFault.Memory) }
     {
         let mut edits = Items::new(alloc);
-        self.push_news(&mut edits)?;
-        self.push_gone(&mut edits)?;
+        self.push_news(&mut edits, stamps)?;
+        Ok(edits)
+    }
+
+    /// The edits by which files are seen with these stamps.
+    fn found(&self, alloc: Global, stamps: &ByPath<Stamp>) -> Result<Edits, GraphFault>
+        ensures ok { IfOk result
+            (λ edits. edits ≡ seen_edits self.now.nodes.now stamps.now) }
+        ensures err { IfErr result (λ fault. fault ≡ GraphFault.Memory) }
+    {
+        let mut edits = Items::new(alloc);
+        self.push_news(&mut edits, stamps)?;
+        self.push_gone(&mut edits, stamps)?;
         Ok(edits)
     }
 
@@ -44,12 +69,12 @@ impl Present<'_> {
     }
 
     /// Files that are new, or have another stamp, are seen so.
-    fn push_news(&self, edits: &mut Edits) -> Result<(), GraphFault>
+    fn push_news(&self, edits: &mut Edits, stamps: &ByPath<Stamp>) -> Result<(), GraphFault>
         ensures ok { OnOk result (edits.new ≡ edits.old
-            ++ news_edits self.now.nodes.now (finite.entries self.now.stamps)) }
+            ++ news_edits self.now.nodes.now (finite.entries stamps.now)) }
         ensures err { IfErr result (λ fault. fault ≡ GraphFault.Memory) }
     {
-        for (path, stamp) in self.stamps.iter() {
+        for (path, stamp) in stamps.iter() {
             self.push_if_news(edits, path, stamp)?;
         }
         Ok(())
@@ -68,25 +93,13 @@ impl Present<'_> {
     }
 
     /// Files that are gone are seen no longer.
-    fn push_gone(&self, edits: &mut Edits) -> Result<(), GraphFault>
+    fn push_gone(&self, edits: &mut Edits, stamps: &ByPath<Stamp>) -> Result<(), GraphFault>
         ensures ok { OnOk result (edits.new ≡ edits.old
-            ++ gone_edits self.now.stamps (finite.entries self.now.nodes.now.seen)) }
+            ++ gone_edits stamps.now (finite.entries self.now.nodes.now.seen)) }
         ensures err { IfErr result (λ fault. fault ≡ GraphFault.Memory) }
     {
         for (path, stamp) in self.nodes.files() {
-            self.push_if_gone(edits, path, stamp)?;
-        }
-        Ok(())
-    }
-
-    /// A file, if it is gone, is seen no longer.
-    fn push_if_gone(&self, edits: &mut Edits, path: &Path, stamp: &Stamp) -> Result<(), GraphFault>
-        ensures ok { OnOk result (edits.new ≡ edits.old
-            ++ gone_edits self.now.stamps ((path.now, stamp.now) ∷ [])) }
-        ensures err { IfErr result (λ fault. fault ≡ GraphFault.Memory) }
-    {
-        if !self.stamps.contains(path) {
-            edits.push(not_seen(path, stamp)?)?;
+            push_if_gone(edits, stamps, path, stamp)?;
         }
         Ok(())
     }
@@ -138,6 +151,23 @@ impl Present<'_> {
         }
         Ok(())
     }
+}
+
+/// A file, if it is gone, is seen no longer.
+fn push_if_gone(
+    edits: &mut Edits,
+    stamps: &ByPath<Stamp>,
+    path: &Path,
+    stamp: &Stamp,
+) -> Result<(), GraphFault>
+    ensures ok { OnOk result (edits.new ≡ edits.old
+        ++ gone_edits stamps.now ((path.now, stamp.now) ∷ [])) }
+    ensures err { IfErr result (λ fault. fault ≡ GraphFault.Memory) }
+{
+    if !stamps.contains(path) {
+        edits.push(not_seen(path, stamp)?)?;
+    }
+    Ok(())
 }
 
 /// Whether a file was seen with this stamp.

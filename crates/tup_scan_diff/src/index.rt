@@ -6,7 +6,7 @@ ghost use Rattle.tup_closure.specs.Grows.{Grows};
 ghost use Rattle.tup_graph.specs.Graph.{is_owned};
 ghost use Rattle.tup_closure.specs.Lists.{IsListed};
 ghost use Rattle.tup_scan_diff.specs.Sets.{Has};
-ghost use Rattle.tup_scan_diff.specs.Index.{AddsFile, HasBelow, HasTupfile, IsAddedIf, IsIndexOf, IsLastOf, IsParted, IsSourceAmong};
+ghost use Rattle.tup_scan_diff.specs.Index.{AddsFile, HasBelow, HasTupfile, IsAddedIf, IsClosed, IsIndexOf, IsLastOf, IsParted, IsSourceAmong};
 
 use std::alloc::Global;
 use std::collections::BTreeSet;
@@ -56,6 +56,7 @@ impl Index {
 
     /// Adds a file, if it is a source.
     fn add_source(&mut self, alloc: Global, nodes: &Nodes, path: &Path) -> Result<(), GraphFault>
+        requires { IsClosed self.old.folders }
         ensures added { OnOk result (IsAddedIf (is_owned nodes.now path.now) path.now
             self.old self.new) }
         ensures memory { IfErr result (λ fault. fault ≡ GraphFault.Memory) }
@@ -68,6 +69,7 @@ impl Index {
 
     /// Adds a file.
     fn add(&mut self, alloc: Global, path: &Path) -> Result<(), GraphFault>
+        requires { IsClosed self.old.folders }
         ensures added { OnOk result (AddsFile path.now self.old self.new) }
         ensures memory { IfErr result (λ fault. fault ≡ GraphFault.Memory) }
     {
@@ -97,8 +99,9 @@ impl Index {
     }
 }
 
-/// Adds all folders above a path.
+/// Adds all folders above a path. Where its own folder is there, all are.
 fn add_above(alloc: Global, folders: &mut BTreeSet<Path>, path: &Path) -> Result<(), GraphFault>
+    requires { IsClosed folders.old }
     ensures added { OnOk result (Grows (λ dir. IsBelow dir path.now)
         (Has by_names folders.old) (Has by_names folders.new)) }
     ensures memory { IfErr result (λ fault. fault ≡ GraphFault.Memory) }
@@ -106,6 +109,9 @@ fn add_above(alloc: Global, folders: &mut BTreeSet<Path>, path: &Path) -> Result
     let Some((dir, _)) = parted(alloc, path)? else {
         return Ok(());
     };
+    if folders.contains(&dir) {
+        return Ok(());
+    }
     add_above(alloc, folders, &dir)?;
     folders.insert(dir)?;
     Ok(())

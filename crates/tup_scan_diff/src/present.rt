@@ -3,15 +3,15 @@ ghost use Rattle.std.specs.Prelude.{◌≡◌, IfOk, IfErr};
 ghost use Rattle.std.specs.FinMap as finite;
 ghost use Rattle.tup_graph.specs.Answers.{tup_config};
 ghost use Rattle.tup_graph.specs.Graph.{source};
-ghost use Rattle.tup_scan_diff.specs.Present.{IsPresent, graph_of, seeing};
+ghost use Rattle.tup_scan_diff.specs.Present.{IsPresent, graph_of, seeing, stamps_from, stamps_in};
 
 use crate::index::Index;
 use crate::made::Made;
 use crate::settings::Settings;
-use crate::stamps::stamps_of;
+use crate::stamps::Stamps;
 use std::alloc::Global;
 use tup_graph::{GraphFault, Nodes};
-use tup_path::{ByPath, Path};
+use tup_path::Path;
 use tup_scan::Seen;
 use tup_stamp::Stamp;
 
@@ -19,8 +19,7 @@ use tup_stamp::Stamp;
 #[derive(Drop)]
 pub(crate) struct Present<'g> {
     pub(crate) nodes: &'g Nodes,
-    /// The stamps of all files.
-    pub(crate) stamps: ByPath<Stamp>,
+    pub(crate) stamps: Stamps,
     /// The sources by their folders.
     pub(crate) index: Index,
     /// The outputs of the readings by their folders.
@@ -36,11 +35,11 @@ impl<'g> Present<'g> {
     ) -> Result<Present<'g>, GraphFault>
         ensures nodes { IfOk result (λ present. present.nodes.now ≡ nodes.now) }
         ensures stamps { IfOk result
-            (λ present. present.stamps ≡ finite.from_entries seen.now.files) }
+            (λ present. stamps_in present ≡ finite.from_entries seen.now.files) }
         ensures present { IfOk result (IsPresent seen.now.config) }
         ensures memory { IfErr result (λ fault. fault ≡ GraphFault.Memory) }
     {
-        let stamps = stamps_of(alloc, seen.files.as_slice())?;
+        let stamps = Stamps::of(alloc, nodes, seen.files.as_slice())?;
         let index = Index::new(alloc, nodes, seen.files.as_slice())?;
         let made = Made::new(alloc, nodes)?;
         let stamp = config_stamp(alloc, nodes, &stamps)?;
@@ -63,22 +62,19 @@ impl<'g> Present<'g> {
 }
 
 /// The stamp of the source at a path: that of the file there, which isn't owned.
-fn source_at(nodes: &Nodes, stamps: &ByPath<Stamp>, path: &Path) -> Option<Stamp>
-    ensures { result ≡ source (seeing nodes.now stamps.now) path.now }
+fn source_at(nodes: &Nodes, stamps: &Stamps, path: &Path) -> Option<Stamp>
+    ensures { result ≡ source (seeing nodes.now (stamps_from nodes.now stamps.now)) path.now }
 {
     match nodes.owner(path) {
         Some(_) => None,
-        None => stamps.get(path).copied(),
+        None => stamps.get(nodes, path),
     }
 }
 
 /// The stamp of tup.config at the top, where it is a source.
-fn config_stamp(
-    alloc: Global,
-    nodes: &Nodes,
-    stamps: &ByPath<Stamp>,
-) -> Result<Option<Stamp>, GraphFault>
-    ensures stamp { IfOk result (λ stamp. stamp ≡ source (seeing nodes.now stamps.now) tup_config) }
+fn config_stamp(alloc: Global, nodes: &Nodes, stamps: &Stamps) -> Result<Option<Stamp>, GraphFault>
+    ensures stamp { IfOk result (λ stamp. stamp
+        ≡ source (seeing nodes.now (stamps_from nodes.now stamps.now)) tup_config) }
     ensures memory { IfErr result (λ fault. fault ≡ GraphFault.Memory) }
 {
     match Path::from_top(alloc, "tup.config") {

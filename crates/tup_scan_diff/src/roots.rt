@@ -8,7 +8,7 @@ ghost use Rattle.tup_graph.specs.Graph.{is_flagged};
 ghost use Rattle.tup_closure.specs.Grows.{Grows};
 ghost use Rattle.tup_closure.specs.Readers.{AreRunsOfRules};
 ghost use Rattle.tup_scan_diff.specs.Edits.{seen_edits};
-ghost use Rattle.tup_scan_diff.specs.Present.{graph_of};
+ghost use Rattle.tup_scan_diff.specs.Present.{graph_of, stamps_in};
 ghost use Rattle.tup_scan_diff.specs.Touched.{FindsRoots, IsScanRoot, IsUserOf, SeesOtherwise, UsesOneOf};
 ghost use Rattle.tup_scan_diff.specs.Touched.{file_of as file_in, record_of as record_in};
 ghost use Rattle.tup_readers.specs.Sets.{is_in};
@@ -34,7 +34,7 @@ impl Present<'_> {
     ) -> Result<Items<u32>, GraphFault>
         requires same { graph.now ≡ self.now.nodes.now }
         requires runs { AreRunsOfRules graph.now }
-        requires seen { edits.now ≡ seen_edits self.now.nodes.now self.now.stamps }
+        requires seen { edits.now ≡ seen_edits self.now.nodes.now (stamps_in self.now) }
         ensures above { IfOk result (λ numbers. (number : ℕ) → Contains numbers number
             ↔ IsAbove (graph_of self.now) (IsScanRoot (graph_of self.now)) number) }
         ensures ascending { IfOk result (λ numbers. IsStrictlySortedBy nat_cmp numbers) }
@@ -53,7 +53,7 @@ impl Present<'_> {
         edits: &[Edit],
     ) -> Result<Items<u32>, GraphFault>
         requires same { graph.now ≡ self.now.nodes.now }
-        requires seen { edits.now ≡ seen_edits self.now.nodes.now self.now.stamps }
+        requires seen { edits.now ≡ seen_edits self.now.nodes.now (stamps_in self.now) }
         ensures roots { IfOk result (λ roots. (number : ℕ)
             → Contains roots number ↔ IsScanRoot (graph_of self.now) number) }
         ensures memory { IfErr result (λ fault. fault ≡ GraphFault.Memory) }

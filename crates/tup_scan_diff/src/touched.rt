@@ -5,7 +5,7 @@ ghost use Rattle.std.specs.FinMap as finite;
 ghost use Rattle.tup_rule.specs.Rule.{writes};
 ghost use Rattle.tup_graph.specs.Graph.{is_rule};
 ghost use Rattle.tup_graph.specs.Scan.{IsTouched};
-ghost use Rattle.tup_scan_diff.specs.Present.{graph_of};
+ghost use Rattle.tup_scan_diff.specs.Present.{graph_of, stamps_in};
 ghost use Rattle.tup_scan_diff.specs.Touched.{AsksOther, WroteOther, IsScanRoot};
 
 use crate::present::Present;
@@ -65,7 +65,7 @@ impl Present<'_> {
     /// Whether a path is no output of a rule, and has another stamp now.
     fn is_other(&self, rule: &Rule, path: &Path, given: Option<Stamp>) -> bool
         ensures { Decides result ((writes rule.now path.now ≡ false)
-            × (given ≢ finite.get self.now.stamps path.now)) }
+            × (given ≢ finite.get (stamps_in self.now) path.now)) }
     {
         if rule.writes(path) {
             return false;
@@ -87,8 +87,8 @@ impl Present<'_> {
 
     /// Whether a path has this stamp now, or no file.
     fn sees(&self, path: &Path, given: Option<Stamp>) -> bool
-        ensures { Decides result (given ≡ finite.get self.now.stamps path.now) }
+        ensures { Decides result (given ≡ finite.get (stamps_in self.now) path.now) }
     {
-        given == self.stamps.get(path).copied()
+        given == self.stamps.get(self.nodes, path)
     }
 }

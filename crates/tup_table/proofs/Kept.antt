@@ -11,7 +11,7 @@ use Rattle.std.specs.Ordering.{match_ordering, is_eq}
 use Rattle.std.specs.declared.cmp.Ordering.TheVariants.{Less, Equal, Greater}
 use Rattle.tup_path.specs.Order.{by_bytes}
 use Rattle.tup_table.specs.Entries.{Standing, IsAscending, changed, committed, entry_at}
-use Rattle.tup_table.specs.Slots.{Slots, in_front, standing, HaveRoom, RoomStays}
+use Rattle.tup_table.specs.Slots.{Slots, in_front, in_slot, standing, HaveRoom, RoomStays}
 use Rattle.tup_table.specs.declared.change.Change.{Change}
 use Rattle.tup_table.specs.declared.entry.Entry.{Entry}
 use Rattle.tup_table.proofs.Keys.{antisymmetric, none_behind, all_after}
@@ -129,10 +129,6 @@ absent ((q, Some w) ∷ es) k none =
     ]) none
 
 -- ---- what stands in a key's slot
-abbrev in_slot : Option (Option Entry) → Option Entry
-in_slot None = None
-in_slot (Some slot) = slot
-
 slot_at : (es : Slots) (k : List ℕ) → IsAscending es → entry_at (standing es) k ≡ in_slot (lookup (is_at (by_bytes k)) es)
 slot_at [] k up = refl
 slot_at ((q, None) ∷ es) k up =
@@ -170,7 +166,7 @@ module _ (es new : Slots) (up : IsStrictlySortedBy by_bytes (keys_of es)) (k : L
 
 -- ---- what is looked up
 module _ (es : Slots) (now : Standing) (up : IsStrictlySortedBy by_bytes (keys_of es)) (k : List ℕ) (seen : standing es ≡ now) where
-  at_slot : (slot : Option (Option Entry)) → slot ≡ lookup (is_at (by_bytes k)) es → in_slot slot ≡ entry_at now k
+  pub at_slot : (slot : Option (Option Entry)) → slot ≡ lookup (is_at (by_bytes k)) es → in_slot slot ≡ entry_at now k
   at_slot slot e = ap in_slot e ∙ sym (slot_at es k (ascends es up)) ∙ ap (λ (s : Standing). entry_at s k) seen
 
   pub entry_there : (slot result : Option Entry) → found slot ≡ lookup (is_at (by_bytes k)) es → result ≡ slot → result ≡ entry_at now k

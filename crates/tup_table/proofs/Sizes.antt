@@ -7,6 +7,7 @@ use Rattle.std.specs.Map.{remove_entry}
 use Rattle.std.specs.Ordering.{match_ordering, is_eq}
 use Rattle.std.specs.declared.cmp.Ordering.TheVariants.{Less, Equal, Greater}
 use Rattle.tup_path.specs.Order.{by_bytes}
+use Rattle.tup_table.specs.Appending.{HasShortKey}
 use Rattle.tup_table.specs.Compact.{EntriesFit, HasSameValues, put_of, size_of, size_in, size_at, size_known, size_left, live_by, live_size}
 use Rattle.tup_table.specs.Entries.{Standing, IsAscending, changed, committed, left_from, entries_of, entry_at, key_of}
 use Rattle.tup_table.specs.Spelling.{ChangeFits, ChangesFit, change_spelling, payload, commit, blocks}
@@ -72,13 +73,15 @@ short_at (e ∷ es) k v fit there =
       | Greater ↦ λ o t. short_at es k v fit.1 t
     ]) refl there
 
--- what the entries take once one change is made
-pub one_size : (es : Standing) (c : Change) → IsAscending es → (rest before more : ℕ) → rest ≡ size_of es - before → before ≡ size_at es (key_of c) → more ≡ size_left c
-    → (result : Result ℕ TableFault) → MatchResult result (λ sum. (sum ≡ rest + more) × (sum ≤ 4611686018427387904)) (λ fault. fault ≡ Memory)
-    → MatchResult result (λ size. (size ≤ 4611686018427387904) × ((origin : ℕ) → size ≡ size_of (changed origin es c))) (λ fault. fault ≡ Memory)
-one_size es c up rest before more is at left (Ok sum) so =
-    (so.1, λ origin. (let total = so.0 in omega (arith, total, is, at, left, changed_size origin es c up, size_inside es (key_of c) up)))
-one_size es c up rest before more is at left (Err fault) so = so
+-- a change that has a spelling has a short key
+pub short_key : (c : Change) → HasShortKey c → length (key_of c) ≤ 65535
+short_key (Put k v) short = short
+short_key (Delete k) short = short
+
+-- what the entries take once one change is made, by what stood under its key
+pub applied_size : (origin : ℕ) (es : Standing) (c : Change) → IsAscending es → (size grown before more : ℕ) → size ≡ size_of es → grown ≡ size + more → before ≡ size_at es (key_of c) → more ≡ size_left c
+    → grown - before ≡ size_of (changed origin es c)
+applied_size origin es c up size grown before more is sum at left = omega (arith, is, sum, at, left, changed_size origin es c up, size_inside es (key_of c) up)
 
 -- ---- tests of keys
 same_at : (k q : List ℕ) → is_at (by_bytes k) q ≡ true → k ≡ q

@@ -25,6 +25,11 @@ abbrev pub standing : Slots → Standing
 standing [] = []
 standing (slot ∷ slots) = in_front slot.0 slot.1 (standing slots)
 
+-- what stands in a slot, if there is one
+abbrev pub in_slot : Option (Option Entry) → Option Entry
+in_slot None = None
+in_slot (Some slot) = slot
+
 -- the entries of slots have spellings, and take this many bytes
 abbrev pub AreSlotsOf : ℕ → Slots → Type 0
 AreSlotsOf size slots = EntriesFit (standing slots) × (size ≡ size_of (standing slots)) × (size ≤ 4611686018427387904)

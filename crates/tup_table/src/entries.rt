@@ -8,7 +8,7 @@ ghost use Rattle.tup_table.specs.Spelling.{ChangeFits};
 use crate::change::Change;
 use crate::entry::Entry;
 use crate::fault::TableFault;
-use crate::size::{live_of, put_size, size_with};
+use crate::size::{change_size, entry_size, front_size, live_of, put_size, with};
 use crate::slots::{Slots, apply};
 use std::alloc::Global;
 use std::collections::BTreeMap;
@@ -133,9 +133,10 @@ impl Entries {
         ensures ok { OnOk result (self.new ≡ changed origin self.old change) }
         ensures err { IfErr result (λ fault. (fault ≡ TableFault.Memory) × (self.new ≡ self.old)) }
     {
-        let size = size_with(self, &change)?;
-        apply(&mut self.slots, change, origin)?;
-        self.size = size;
+        let front = front_size(&change);
+        let grown = with(self.size, change_size(&change))?;
+        let stood = apply(&mut self.slots, change, origin)?;
+        self.size = grown - entry_size(front, &stood);
         Ok(())
     }
 }

@@ -3,11 +3,12 @@ ghost use Rattle.std.specs.Prelude.{◌≡◌, ◌+◌, ◌≤◌, length, cond,
 ghost use Rattle.std.specs.BTreeMap.{get, is_at};
 ghost use Rattle.tup_path.specs.Order.{by_bytes};
 ghost use Rattle.tup_table.specs.Appending.{HasShortKey};
-ghost use Rattle.tup_table.specs.Compact.{size_of, size_known, size_left, live_by};
-ghost use Rattle.tup_table.specs.Entries.{changed, committed, key_of as key_of_change};
+ghost use Rattle.tup_table.specs.Compact.{size_in, size_of, size_known, size_left, live_by};
+ghost use Rattle.tup_table.specs.Entries.{committed, key_of as key_of_change};
 
 use crate::change::Change;
 use crate::entries::Entries;
+use crate::entry::Entry;
 use crate::fault::TableFault;
 use std::alloc::Global;
 use std::collections::BTreeMap;
@@ -78,21 +79,27 @@ fn size_before(entries: &Entries, changed: &BTreeMap<Bytes, u64>, key: &Bytes) -
     }
 }
 
-/// How many bytes the entries take once one change is made.
-pub(crate) fn size_with(entries: &Entries, change: &Change) -> Result<u64, TableFault>
+/// How many bytes the entry of a change's key takes beside its value.
+pub(crate) fn front_size(change: &Change) -> u64
     requires { HasShortKey change.now }
-    ensures { MatchResult result
-        (λ size. (size ≤ 4611686018427387904)
-        × ((origin : ℕ) → size ≡ size_of (changed origin entries.now change.now)))
-        (λ fault. fault ≡ TableFault.Memory) }
+    ensures { result ≡ 7 + length (key_of_change change.now) }
 {
-    entries.keys_ascend();
-    let rest = entries.size() - entries.size_at(key_of(change));
-    with(rest, change_size(change))
+    7 + key_of(change).as_slice().len() as u64
+}
+
+/// How many bytes an entry takes, if there is one, of which so many are beside its value.
+pub(crate) fn entry_size(front: u64, entry: &Option<Entry>) -> u64
+    requires { front ≤ 65542 }
+    ensures { (key : List ℕ) → front ≡ 7 + length key → result ≡ size_in key entry.now }
+{
+    match entry {
+        Some(entry) => front + entry.value.as_slice().len() as u64,
+        None => 0,
+    }
 }
 
 /// The sum of two sizes, for which there is memory.
-fn with(size: u64, more: u64) -> Result<u64, TableFault>
+pub(crate) fn with(size: u64, more: u64) -> Result<u64, TableFault>
     ensures { MatchResult result
         (λ sum. (sum ≡ size + more) × (sum ≤ 4611686018427387904))
         (λ fault. fault ≡ TableFault.Memory) }
@@ -113,7 +120,7 @@ fn key_of(change: &Change) -> &Bytes
 }
 
 /// How many bytes the entry takes that a change leaves under its key.
-fn change_size(change: &Change) -> u64
+pub(crate) fn change_size(change: &Change) -> u64
     requires { HasShortKey change.now }
     ensures { result ≡ size_left change.now }
 {

@@ -6,16 +6,16 @@ use Rattle.tup_readers.specs.Index.{HasQuestioned}
 use Rattle.tup_readers.proofs.Answering.{askers_listed, none_ascend}
 use Rattle.tup_readers.proofs.indexed.Indexed.asked_by.Goals as goal
 
-pub returns-in_ok-listed_paths-in-Some-clause-folders : goal.returns-in_ok-listed_paths-in-Some-clause-folders
-returns-in_ok-listed_paths-in-Some-clause-folders c = λ dir.
+pub returns-in-Some-clause-folders : goal.returns-in-Some-clause-folders
+returns-in-Some-clause-folders c = λ dir.
     let items = c.in_ok-listed_paths-in-Some.field-0.items in
     subst (λ (g : GraphState). Contains items dir ↔ HasQuestioned g dir c.args.question.now) c.self.view_is
-    (askers_listed c.self.inside.nodes c.self.inside.index.askers c.args.question.now items (Some c.in-Some.dirs.now) c.self.invariant.0.1 c.in-Some.ensures c.in_ok-listed_paths-in-Some.ensures.list dir)
+    (askers_listed c.self.inside.nodes c.in_ok-askers.askers c.args.question.now items (Some c.in-Some.dirs.now) c.in_ok-askers.ensures c.in-Some.ensures c.in_ok-listed_paths-in-Some.ensures.list dir)
 
-pub returns-in-None-clause-folders : goal.returns-in-None-clause-folders
-returns-in-None-clause-folders c = λ dir.
+pub returns-clause-folders : goal.returns-clause-folders
+returns-clause-folders c = λ dir.
     subst (λ (g : GraphState). Contains c.new.result.items dir ↔ HasQuestioned g dir c.args.question.now) c.self.view_is
-    (askers_listed c.self.inside.nodes c.self.inside.index.askers c.args.question.now c.new.result.items None c.self.invariant.0.1 c.in-None.ensures c.new.ensures.items dir)
+    (askers_listed c.self.inside.nodes c.in_ok-askers.askers c.args.question.now c.new.result.items None c.in_ok-askers.ensures c.in-None.ensures c.new.ensures.items dir)
 
-pub returns-in-None-clause-ascending : goal.returns-in-None-clause-ascending
-returns-in-None-clause-ascending c = none_ascend by_names c.new.result.items c.new.ensures.items
+pub returns-clause-ascending : goal.returns-clause-ascending
+returns-clause-ascending c = none_ascend by_names c.new.result.items c.new.ensures.items

@@ -10,4 +10,4 @@ use Rattle.tup_readers.proofs.indexed.Indexed.readers.Goals as goal
 pub returns : goal.returns
 returns c = λ number.
     subst (λ (g : GraphState). (is_in nat_cmp (option_copied c.readers.result) number ≡ true) ↔ HasAsked g number c.args.path.now) c.self.view_is
-    (readers_in c.self.inside.nodes c.self.inside.index.users c.args.path.now (option_copied c.readers.result) c.self.invariant.0.0 c.readers.ensures number)
+    (readers_in c.self.inside.nodes c.self.inside.users c.args.path.now (option_copied c.readers.result) c.self.invariant.0 c.readers.ensures number)

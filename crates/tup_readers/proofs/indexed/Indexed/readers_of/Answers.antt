@@ -10,12 +10,12 @@ pub returns-in_ok-listed_numbers-in-Some-clause-readers : goal.returns-in_ok-lis
 returns-in_ok-listed_numbers-in-Some-clause-readers c = λ number.
     let items = c.in_ok-listed_numbers-in-Some.field-0.items in
     subst (λ (g : GraphState). Contains items number ↔ HasAsked g number c.args.path.now) c.self.view_is
-    (readers_listed c.self.inside.nodes c.self.inside.index.users c.args.path.now items (Some c.in-Some.numbers.now) c.self.invariant.0.0 c.in-Some.ensures c.in_ok-listed_numbers-in-Some.ensures.list number)
+    (readers_listed c.self.inside.nodes c.self.inside.users c.args.path.now items (Some c.in-Some.numbers.now) c.self.invariant.0 c.in-Some.ensures c.in_ok-listed_numbers-in-Some.ensures.list number)
 
 pub returns-in-None-clause-readers : goal.returns-in-None-clause-readers
 returns-in-None-clause-readers c = λ number.
     subst (λ (g : GraphState). Contains c.new.result.items number ↔ HasAsked g number c.args.path.now) c.self.view_is
-    (readers_listed c.self.inside.nodes c.self.inside.index.users c.args.path.now c.new.result.items None c.self.invariant.0.0 c.in-None.ensures c.new.ensures.items number)
+    (readers_listed c.self.inside.nodes c.self.inside.users c.args.path.now c.new.result.items None c.self.invariant.0 c.in-None.ensures c.new.ensures.items number)
 
 pub returns-in-None-clause-ascending : goal.returns-in-None-clause-ascending
 returns-in-None-clause-ascending c = none_ascend nat_cmp c.new.result.items c.new.ensures.items

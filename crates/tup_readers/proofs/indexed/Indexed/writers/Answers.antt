@@ -10,4 +10,4 @@ use Rattle.tup_readers.proofs.indexed.Indexed.writers.Goals as goal
 pub returns : goal.returns
 returns c = λ number.
     subst (λ (g : GraphState). (is_in nat_cmp (option_copied c.writers.result) number ≡ true) ↔ HasWritten g number c.args.path.now) c.self.view_is
-    (writers_in c.self.inside.nodes c.self.inside.index.users c.args.path.now (option_copied c.writers.result) c.self.invariant.0.0 c.writers.ensures number)
+    (writers_in c.self.inside.nodes c.self.inside.users c.args.path.now (option_copied c.writers.result) c.self.invariant.0 c.writers.ensures number)

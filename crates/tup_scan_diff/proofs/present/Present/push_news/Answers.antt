@@ -14,6 +14,6 @@ loop-path-preserved c =
 
 pub returns-clause-ok : goal.returns-clause-ok
 returns-clause-ok c =
-    let all = iter_end deref_pair (finite.entries c.args.self.now.stamps) c.loop-path.yielded c.into_iter-path-iterator.result c.loop-path.path-iterator c.next.new.self c.next.result
+    let all = iter_end deref_pair (finite.entries c.args.stamps.now) c.loop-path.yielded c.into_iter-path-iterator.result c.loop-path.path-iterator c.next.new.self c.next.result
     (c.into_iter-path-iterator.ensures.into_iter_gives ∙ c.iter-path-items.ensures) c.loop-path.yielded_by c.in-None.is c.next.ensures.steps in
     c.loop-path.invariant ∙ ap (λ (l : List _). c.args.edits.now ++ news_edits c.args.self.now.nodes.now l) all.0

@@ -3,7 +3,7 @@ use Rattle.std.specs.Prelude.{Contains, ◌↔◌}
 use Rattle.std.proofs.lemmas.Result.{IfOk-weaker}
 use Rattle.tup_graph.specs.Above.{IsAbove}
 use Rattle.tup_graph.specs.Graph.{GraphState, is_rule}
-use Rattle.tup_scan_diff.specs.Present.{graph_of}
+use Rattle.tup_scan_diff.specs.Present.{graph_of, stamps_in}
 use Rattle.tup_scan_diff.specs.Touched.{IsScanRoot}
 use Rattle.tup_scan_diff.proofs.Rooted.{above_seeing}
 use Rattle.tup_scan_diff.proofs.present.Present.to_run.Goals as goal
@@ -18,7 +18,7 @@ returns-clause-above c =
     let roots = c.as_slice.result.now in
     IfOk-weaker c.above.result (λ (numbers : List ℕ). (number : ℕ) → Contains numbers number ↔ IsAbove c.args.graph.now (Contains roots) number)
     (λ (numbers : List ℕ). (number : ℕ) → Contains numbers number ↔ IsAbove (graph_of c.args.self.now) (IsScanRoot (graph_of c.args.self.now)) number)
-    (λ numbers above. above_seeing g c.args.self.now.stamps roots numbers
+    (λ numbers above. above_seeing g (stamps_in c.args.self.now) roots numbers
     (subst (λ (l : List ℕ). (number : ℕ) → Contains l number ↔ IsScanRoot (graph_of c.args.self.now) number) (sym c.as_slice.ensures) c.in_ok-roots.ensures.roots)
     (subst (λ (h : GraphState). (number : ℕ) → Contains numbers number ↔ IsAbove h (Contains roots) number) c.requires.same above))
     c.above.ensures.above

@@ -1,5 +1,5 @@
 use Rattle.tup_scan_diff.proofs.Stamped.{stamp_more}
-use Rattle.tup_scan_diff.proofs.stamps.stamps_of.Goals as goal
+use Rattle.tup_scan_diff.proofs.stamps.all_stamps.Goals as goal
 
 pub loop-path-preserved : goal.loop-path-preserved
 loop-path-preserved c =
