@@ -9,6 +9,7 @@ pub mod Ending
 pub mod Folds
 pub mod Coming
 pub mod Visiting
+pub mod Keeping
 pub mod Finishing
 pub mod Imaging
 pub mod Answering

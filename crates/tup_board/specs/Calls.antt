@@ -9,7 +9,7 @@ use Rattle.tup_path.specs.Name.{Names, Content}
 use Rattle.tup_path.specs.Tree.{Tree}
 use Rattle.tup_stamp.specs.declared.Stamp.{Stamp}
 use Rattle.tup_stamp.specs.Stamp.{stamp}
-use Rattle.tup_site.specs.Cause.{IsTooLarge}
+use Rattle.tup_site.specs.Cause.{IsTooLarge, most_bytes}
 use Rattle.tup_site.specs.Crash.{GoesOn as GoesOnFrom, NoStep}
 use Rattle.tup_site.specs.Known.{Keeps}
 use Rattle.tup_site.specs.declared.site.Site.{Ghosts as Site}
@@ -109,7 +109,7 @@ pub record IsAsked {S : Type 0} (seat : ℕ) (text : List ℕ) (old : BoardState
 abbrev pub HasAskedFor : {S : Type 0} → ℕ → List ℕ → BoardState S → Result Asked BoardFault → Type 0
 HasAskedFor seat text old (Ok (Told content)) = (path : Names) × AsksFor old seat text path
 HasAskedFor seat text old (Err ByVisit) = (path : Names) × AsksFor old seat text path
-HasAskedFor seat text old (Err (TooLarge bytes)) = (16777216 < bytes) × ((path : Names) × AsksFor old seat text path)
+HasAskedFor seat text old (Err (TooLarge bytes)) = (most_bytes < bytes) × ((path : Names) × AsksFor old seat text path)
 HasAskedFor seat text old result = Unit {0}
 
 -- all that an ask does, by its answer

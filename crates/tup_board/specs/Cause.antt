@@ -3,6 +3,7 @@ use Rattle.std.specs.Prelude.{◌≡◌, ◌⊎◌, ℕ, ◌<◌, Bool, List, []
 use Rattle.std.specs.FinMap as finite
 use Rattle.tup_path.specs.Count.{Rose}
 use Rattle.tup_path.specs.Name.{Names, Content}
+use Rattle.tup_site.specs.Cause.{most_bytes}
 use Rattle.tup_site.specs.World.{World}
 use Rattle.tup_table.specs.Reading.{opened_of}
 use Rattle.tup_table.specs.Table.{IsAtRest, entries_in, gate_of}
@@ -64,7 +65,7 @@ pub record HasNoRoom {S : Type 0} (it : BoardState S) (bytes : List ℕ) : Type 
 -- which a crash since then may leave so
 abbrev pub IsTrueCause : {S : Type 0} → BoardState S → ℕ → ℕ → Bool → World → (World → Type 0) → Cause → Type 0
 IsTrueCause it before now tells world Since Site = Rose before now
-IsTrueCause it before now tells world Since (TooLarge bytes) = (16777216 < bytes) × (IsTrue tells → HasLargeFile it world bytes)
+IsTrueCause it before now tells world Since (TooLarge bytes) = (most_bytes < bytes) × (IsTrue tells → HasLargeFile it world bytes)
 IsTrueCause it before now tells world Since Full = IsTrue tells → (w : World) × Since w × HasNoRoom it w.store
 IsTrueCause it before now tells world Since Bad = Unit {0}
 IsTrueCause it before now tells world Since Run = Unit {0}

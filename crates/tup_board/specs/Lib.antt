@@ -1,4 +1,5 @@
 pub mod Board
+pub mod Contents
 pub mod Outputs
 pub mod Ends
 pub mod Come

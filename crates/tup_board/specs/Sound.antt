@@ -5,6 +5,7 @@ use Rattle.std.specs.Option.{option_map}
 use Rattle.tup_path.specs.Count.{Rose}
 use Rattle.tup_path.specs.Name.{Names}
 use Rattle.tup_stamp.specs.Stamp.{stamp}
+use Rattle.tup_site.specs.Cause.{most_bytes}
 use Rattle.tup_site.specs.Known.{Keeps}
 use Rattle.tup_site.specs.World.{World}
 use Rattle.tup_site.specs.declared.site.Site.{Ghosts as Site}
@@ -93,6 +94,6 @@ pub record IsSound {S R : Type 0} (site : Site S) (runner : Runner R) (board : B
 -- a refusal at a seat is true of a board, as the cause of a stop
 abbrev pub IsTrueFault : {S : Type 0} → Site S → BoardState S → ℕ → BoardFault → Type 0
 IsTrueFault site it seat ByVisit = Rose (site.faults it.opening.site) (site.faults it.site)
-IsTrueFault site it seat (TooLarge bytes) = (16777216 < bytes) × (IsTrue site.tells → HasLargeFile it (site.world it.site) bytes)
+IsTrueFault site it seat (TooLarge bytes) = (most_bytes < bytes) × (IsTrue site.tells → HasLargeFile it (site.world it.site) bytes)
 IsTrueFault site it seat Full = IsTrue site.tells → (w : World) × Since site it w × HasNoRoom (with_history it (it.history ++ stops_by seat Full)) w.store
 IsTrueFault site it seat Memory = Unit {0}

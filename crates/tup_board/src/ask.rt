@@ -23,6 +23,8 @@ impl<S: Site, R: Runner> Board<S, R> {
     /// Answers what the command of a seat asks for: the file's content, or that there is none; an output of its own rule is
     /// absent. `Denied` comes just where the command may not ask for it.
     ///
+    /// A content that was answered before is kept, if there is room. It isn't read again where the core's files have its stamp.
+    ///
     /// `Memory` leaves all as it was. It is answered too where the file isn't that of the core's files, which a site may
     /// do that doesn't tell its tree. After `Site` and `TooLarge` the seat runs nothing any more, and all is stopped.
     pub fn ask(

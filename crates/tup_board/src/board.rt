@@ -10,6 +10,7 @@ ghost use Rattle.tup_core.specs.Sound.{IsInRange};
 ghost use Rattle.tup_core.specs.declared.event.Cause.TheVariants.{Run, Memory as NoMemory};
 
 use crate::answers::BoardParts;
+use crate::contents::Contents;
 use std::alloc::{AllocError, Global};
 use std::marker::{Model, PhantomData};
 use std::snapshot::Snapshot;
@@ -23,11 +24,12 @@ use tup_schedule::{Claimed, Course};
 use tup_site::Site;
 use tup_stored_graph::Graph;
 
-/// An update under way: a site with its graph, and all that happened.
+/// An update under way: a site with its graph, and all that happened. It keeps contents that were read.
 #[derive(Drop)]
 pub struct Board<S: Site, R: Runner> {
     pub(crate) ground: Ground<S>,
     pub(crate) course: Course,
+    pub(crate) contents: Contents,
     first_graph: Snapshot<Graph>,
     first_site: Snapshot<S>,
     of: PhantomData<R>,
@@ -37,6 +39,7 @@ impl<S: Site, R: Runner> Model for Board<S, R> {
     ghost use Rattle.std.specs.Prelude.{◌≡◌};
     ghost use Rattle.std.specs.FinMap as finite;
     ghost use Rattle.tup_board.specs.Board.{BoardState, board_code};
+    ghost use Rattle.tup_board.specs.Contents.{AreKept};
     ghost use Rattle.tup_board.specs.Sound.{IsSound};
 
     ghost Value = { BoardState S };
@@ -66,7 +69,8 @@ impl<S: Site, R: Runner> Model for Board<S, R> {
           site = b.ground.site;
           graph = b.ground.graph;
           lost = b.ground.lost;
-        }) };
+        })
+        × AreKept S.Site b.ground.site b.contents };
 }
 
 impl<S: Site, R: Runner> Board<S, R> {
@@ -90,13 +94,13 @@ impl<S: Site, R: Runner> Board<S, R> {
         ensures memory { IfErr result (λ back. back ≡ (site, graph, BoardFault.Memory)) }
     {
         match opened(alloc, graph.nodes(), plan) {
-            Ok(course) => Ok(Board::of(site, graph, course)),
+            Ok(course) => Ok(Board::of(alloc, site, graph, course)),
             Err(_) => Err((site, graph, BoardFault::Memory)),
         }
     }
 
     /// The same, of a course that begins.
-    fn of(site: S, graph: Graph, course: Course) -> Board<S, R>
+    fn of(alloc: Global, site: S, graph: Graph, course: Course) -> Board<S, R>
         requires opening { IsOpening S.Site.own (opened_as course.plan graph site) }
         requires files { course.files ≡ finite.entries graph.nodes.seen }
         requires graph { IsGraphOf (entries_in graph.table) graph.nodes }
@@ -112,6 +116,7 @@ impl<S: Site, R: Runner> Board<S, R> {
                 lost: None,
             },
             course,
+            contents: Contents::new(alloc),
             of: PhantomData,
         }
     }

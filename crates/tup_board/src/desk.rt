@@ -96,9 +96,39 @@ pub(crate) trait Desk {
         ensures asks { Asks Self.Site.Site seat text.now
             (board self.old) result (board self.new) };
 
-    /// Tells what was read at a path. It is what the core's files have there, unless somebody else changed it: that may
-    /// be so over a site that doesn't tell its tree, and then it isn't told.
-    fn tell(
+    /// Answers for a path that is no own output. A content that is kept isn't read again.
+    fn answer_other(
+        &mut self,
+        alloc: Global,
+        plan: &Plan,
+        seat: u32,
+        text: &Text,
+        path: &Path,
+    ) -> Result<Asked, BoardFault>
+        requires plan { plan.now ≡ plan_of (board self.old) }
+        requires runs { GoesOn (course_of (board self.old)) seat }
+        requires asks_for { AsksFor (board self.old) seat text.now path.now }
+        ensures asks { Asks Self.Site.Site seat text.now
+            (board self.old) result (board self.new) };
+
+    /// Reads what stands at a path, and answers it.
+    fn read(
+        &mut self,
+        alloc: Global,
+        plan: &Plan,
+        seat: u32,
+        text: &Text,
+        path: &Path,
+    ) -> Result<Asked, BoardFault>
+        requires plan { plan.now ≡ plan_of (board self.old) }
+        requires runs { GoesOn (course_of (board self.old)) seat }
+        requires asks_for { AsksFor (board self.old) seat text.now path.now }
+        ensures asks { Asks Self.Site.Site seat text.now
+            (board self.old) result (board self.new) };
+
+    /// Tells what was read at a path, and keeps it. It is what the core's files have there, unless somebody else changed
+    /// it: that may be so over a site that doesn't tell its tree, and then it isn't told.
+    fn tell_read(
         &mut self,
         alloc: Global,
         plan: &Plan,
@@ -110,6 +140,27 @@ pub(crate) trait Desk {
         requires plan { plan.now ≡ plan_of (board self.old) }
         requires runs { GoesOn (course_of (board self.old)) seat }
         requires asks_for { AsksFor (board self.old) seat text.now path.now }
+        requires found { IsTrue Self.Site.Site.tells
+            → found ≡ finite.get (Self.Site.Site.world (board self.old).site).tree path.now }
+        ensures asks { Asks Self.Site.Site seat text.now
+            (board self.old) result (board self.new) };
+
+    /// Tells what stands at a path, or that nothing does. It has this stamp, as the core's files have it there.
+    fn tell(
+        &mut self,
+        alloc: Global,
+        plan: &Plan,
+        seat: u32,
+        text: &Text,
+        path: &Path,
+        found: Option<Bytes>,
+        stamp: Option<Stamp>,
+    ) -> Result<Asked, BoardFault>
+        requires plan { plan.now ≡ plan_of (board self.old) }
+        requires runs { GoesOn (course_of (board self.old)) seat }
+        requires asks_for { AsksFor (board self.old) seat text.now path.now }
+        requires stamp { stamp ≡ option_map stamp_of_content found }
+        requires files { stamp ≡ (state (board self.old)).files path.now }
         requires found { IsTrue Self.Site.Site.tells
             → found ≡ finite.get (Self.Site.Site.world (board self.old).site).tree path.now }
         ensures asks { Asks Self.Site.Site seat text.now
@@ -166,10 +217,7 @@ impl<S: Site, R: Runner> Desk for Board<S, R> {
         if rule_run(&self.course, plan, seat).writes(path) {
             return self.answer_own(alloc, plan, seat, text);
         }
-        match self.ground.get(alloc, path) {
-            Ok(found) => self.tell(alloc, plan, seat, text, path, found),
-            Err(fault) => Err(self.fail(plan, seat, fault)),
-        }
+        self.answer_other(alloc, plan, seat, text, path)
     }
 
     fn answer_own(
@@ -183,7 +231,36 @@ impl<S: Site, R: Runner> Desk for Board<S, R> {
         Ok(Asked::Absent)
     }
 
-    fn tell(
+    fn answer_other(
+        &mut self,
+        alloc: Global,
+        plan: &Plan,
+        seat: u32,
+        text: &Text,
+        path: &Path,
+    ) -> Result<Asked, BoardFault> {
+        let stamp = self.course.file(path);
+        match self.contents.copy(stamp)? {
+            Some(content) => self.tell(alloc, plan, seat, text, path, Some(content), stamp),
+            None => self.read(alloc, plan, seat, text, path),
+        }
+    }
+
+    fn read(
+        &mut self,
+        alloc: Global,
+        plan: &Plan,
+        seat: u32,
+        text: &Text,
+        path: &Path,
+    ) -> Result<Asked, BoardFault> {
+        match self.ground.get(alloc, path) {
+            Ok(found) => self.tell_read(alloc, plan, seat, text, path, found),
+            Err(fault) => Err(self.fail(plan, seat, fault)),
+        }
+    }
+
+    fn tell_read(
         &mut self,
         alloc: Global,
         plan: &Plan,
@@ -196,6 +273,20 @@ impl<S: Site, R: Runner> Desk for Board<S, R> {
         if !same_stamp(&stamp, &self.course.file(path)) {
             return Err(BoardFault::Memory);
         }
+        self.contents.keep(stamp, &found);
+        self.tell(alloc, plan, seat, text, path, found, stamp)
+    }
+
+    fn tell(
+        &mut self,
+        alloc: Global,
+        plan: &Plan,
+        seat: u32,
+        text: &Text,
+        path: &Path,
+        found: Option<Bytes>,
+        stamp: Option<Stamp>,
+    ) -> Result<Asked, BoardFault> {
         self.course.ask(alloc, plan, seat, text, stamp)?;
         Ok(told(found))
     }

@@ -12,6 +12,7 @@
 mod answers;
 mod ask;
 mod board;
+mod contents;
 mod desk;
 mod drain;
 mod finish;

@@ -65,6 +65,7 @@ module _ {T : Type 0} where
   abbrev pub left_with : View T → View T
   left_with v = record { lasts = v.lasts; count = v.count + 1; found = v.found }
 
+  -- the new seat, which has found nothing yet
   abbrev pub right_of : View T → View T
   right_of v = record { lasts = drawn v.count v.lasts; count = 0; found = None }
 

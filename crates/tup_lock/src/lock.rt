@@ -6,6 +6,7 @@ use crate::logged::Logged;
 use crate::rule::{Draw, Give, Order, Take, Unite};
 use crate::view::View;
 use atomic_table::{Refused, Table};
+use crossbeam_utils::Backoff;
 use std::alloc::Global;
 use std::snapshot::Snapshot;
 use std::sync::Wait;
@@ -75,14 +76,24 @@ impl<T: Logged + Drop> Lock<T> {
         ensures shows { Shows T.Logged.own place.old.me.0 result }
     {
         let shared = &self.table.shared;
+        let backoff = Backoff::new();
         for _ in rt.forever() {
             let found = shared.compare_exchange::<Take>(place, 0, 0, 1);
             if found == 0 {
                 return self.lift(place);
             }
-            shared.park(rt, 0, 1);
+            self.rest(rt, &backoff);
         }
         unreachable!()
+    }
+
+    /// Waits for the value to be given back: for a few short turns, and from then on asleep.
+    fn rest<R: Wait>(&self, rt: &R, backoff: &Backoff) {
+        if backoff.is_completed() {
+            self.table.shared.park(rt, 0, 1);
+        } else {
+            backoff.snooze();
+        }
     }
 
     /// Moves the value out of the slot.

@@ -12,7 +12,7 @@ claim-requires-clause-free g c = to_course g.S.Site g.R.Runner _ _ _ _ _ _ _ c.s
 pub invariant_of-self : goal.invariant_of-self
 invariant_of-self g c =
     let kept = claim_kept g.S.Site g.R.Runner _ _ _ _ _ _ _ c.self.invariant.0 c.self.invariant.1 c.self.view_is c.args.seat c.claim.result c.claim.new.self c.requires.seat c.requires.free c.claim.ensures in
-    (kept.files, kept.sound)
+    (kept.files, kept.sound, c.self.invariant.2)
 
 pub returns-clause-claims : goal.returns-clause-claims
 returns-clause-claims g c =

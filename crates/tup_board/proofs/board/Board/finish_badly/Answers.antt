@@ -27,4 +27,4 @@ invariant_of-self-2 g c =
     let report = c.args.report.now in
     let more = bad_sound g.S.Site g.R.Runner c.args.self.now sound c.args.seat (ended_of report) report.dir report.text (asks_of report) c.requires.report c.args.verdict c.requires.judged c.requires.bad report.means in
     let kept = bad_kept g.S.Site g.R.Runner _ _ _ _ _ _ _ c.self.invariant.0 c.self.invariant.1 c.self.view_is c.args.seat c.args.verdict c.finish_badly.new.self c.in_ok-finish_badly.ensures.ok more in
-    (kept.files, kept.sound)
+    (kept.files, kept.sound, c.self.invariant.2)

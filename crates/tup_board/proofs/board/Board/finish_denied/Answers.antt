@@ -11,7 +11,7 @@ finish_denied-requires-clause-seat g c = to_course g.S.Site g.R.Runner _ _ _ _ _
 pub invariant_of-self : goal.invariant_of-self
 invariant_of-self g c =
     let kept = denied_kept g.S.Site g.R.Runner _ _ _ _ _ _ _ c.self.invariant.0 c.self.invariant.1 c.self.view_is c.args.seat c.finish_denied.new.self c.requires.denied c.finish_denied.ensures in
-    (kept.files, kept.sound)
+    (kept.files, kept.sound, c.self.invariant.2)
 
 pub returns-clause-ends : goal.returns-clause-ends
 returns-clause-ends g c =

@@ -7,6 +7,7 @@ use Rattle.tup_runner.specs.Report.{asks_of, ended_of}
 use Rattle.tup_board.specs.Calls.{Ends}
 use Rattle.tup_board.proofs.Finished.{can_make_seen, early_seen, end_here, board_more, end_of_course, made_kept_here, made_seen, more_kept, refused_kept_here, refused_seen, refused_true_here}
 use Rattle.tup_board.proofs.Judging.{outputs_at}
+use Rattle.tup_board.proofs.Keeping.{kept_on, makes_known}
 use Rattle.tup_board.proofs.board.Board.finish_well.Goals as goal
 
 pub good_end-requires-clause-runs : goal.good_end-requires-clause-runs
@@ -40,11 +41,12 @@ finish_well-requires-clause-end g c =
 pub invariant_of-self : goal.invariant_of-self
 invariant_of-self g c =
     let site_laws = g.met.S.Site in
-    more_kept g.S.Site g.R.Runner _ _ _ _ _ c.self.inside.course _ c.in_ok-end.event c.finish_well.ensures c.self.invariant.0
+    let kept = more_kept g.S.Site g.R.Runner _ _ _ _ _ c.self.inside.course _ c.in_ok-end.event c.finish_well.ensures c.self.invariant.0
     (made_kept_here g.S.Site g.R.Runner _ c.args.self.now c.self.invariant.1 c.self.view_is c.args.seat c.args.report.now.dir c.args.report.now.text (asks_of c.args.report.now) (ended_of c.args.report.now) c.requires.report c.args.report.now.means
     c.args.files.now c.requires.judged c.in_ok-end.end.rule c.in_ok-end.end.run c.in_ok-end.event c.in_ok-end.ensures.end
     (λ fresh. subst (IsGraphOf (entries_in c.self.inside.ground.graph.table)) c.nodes.ensures.value (c.nodes.ensures.graph fresh)) site_laws.present site_laws.earlier site_laws.knows_tree
-    c.make.result c.make.new.self c.make.ensures.makes c.make.ensures.cause _ c.in-Ok.is)
+    c.make.result c.make.new.self c.make.ensures.makes c.make.ensures.cause _ c.in-Ok.is) in
+    (kept.0, kept.1, kept_on g.S.Site _ _ _ (makes_known g.S.Site _ _ _ _ _ _ c.make.ensures.makes) c.self.invariant.2)
 
 pub returns-in-Ok : goal.returns-in-Ok
 returns-in-Ok g c =
@@ -64,6 +66,7 @@ invariant_of-self-in-Err g c =
           c.args.files.now c.requires.judged c.in_ok-end.end.rule c.in_ok-end.end.run c.in_ok-end.event c.in_ok-end.ensures.end
           (λ fresh. subst (IsGraphOf (entries_in c.self.inside.ground.graph.table)) c.nodes.ensures.value (c.nodes.ensures.graph fresh)) site_laws.present site_laws.earlier site_laws.knows_tree
           c.make.result c.make.new.self c.make.ensures.makes c.make.ensures.cause c.in-Err.fault c.in-Err.is,
+      kept_on g.S.Site _ _ _ (makes_known g.S.Site _ _ _ _ _ _ c.make.ensures.makes) c.self.invariant.2,
     )
 
 pub fail-requires-clause-true_cause : goal.fail-requires-clause-true_cause

@@ -11,7 +11,7 @@ stop-requires-clause-cause g c = other_cause c.args.cause c.requires.cause
 pub invariant_of-self : goal.invariant_of-self
 invariant_of-self g c =
     let kept = stop_kept g.S.Site g.R.Runner _ _ _ _ _ _ _ c.self.invariant.0 c.self.invariant.1 c.self.view_is c.args.seat c.args.cause c.stop.new.self c.requires.seat c.requires.cause c.stop.ensures in
-    (kept.files, kept.sound)
+    (kept.files, kept.sound, c.self.invariant.2)
 
 pub returns-clause-stops : goal.returns-clause-stops
 returns-clause-stops g c =
