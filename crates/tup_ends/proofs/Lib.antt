@@ -8,3 +8,4 @@ pub mod Staying
 pub mod Blame
 pub mod Stated
 pub mod Lasting
+mod Room

@@ -5,6 +5,7 @@
 
 mod blamed;
 mod finished;
+mod full;
 mod kept;
 mod needed;
 mod sources;
@@ -14,6 +15,7 @@ pub use blamed::bad_rules_are_bad;
 pub use finished::{
     done_is_finished, done_is_settled, finished_is_clean, prepared_is_finished, prepared_is_settled,
 };
+pub use full::full_is_true;
 pub use kept::{boards_are_kept, boards_leave_crashes};
 pub use needed::{
     bad_ran_all_it_could, bad_stands_last, done_ran_all, none_ran_is_needed,

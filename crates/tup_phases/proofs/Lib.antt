@@ -6,6 +6,7 @@ pub mod Users
 mod Brought
 pub mod Within
 mod Blaming
+mod Filling
 mod Owning
 mod Tidying
 mod Telling

@@ -2,3 +2,4 @@ pub mod Prepared
 pub mod Kept
 pub mod Logged
 pub mod Spared
+pub mod Room

@@ -14,6 +14,7 @@ ghost use Rattle.tup_promise.specs.Cause.{HasCountedCause};
 ghost use Rattle.tup_promise.specs.Crashes.{OwnsNoMore};
 ghost use Rattle.tup_phases.specs.Kept.{BlamesSources, BringsNothing, HoldsWithin, IsBrought, IsKeptSince, IsNoted, LeavesFiles};
 ghost use Rattle.tup_phases.specs.Prepared.{HasSeen, RunsNone, StopsReading};
+ghost use Rattle.tup_phases.specs.Room.{FillsStore};
 
 use std::alloc::{AllocError, Global};
 use tup_commit::swap_rules;
@@ -78,6 +79,11 @@ pub(crate) fn brought<S: Site>(
     ensures none { RunsNone log.old log.new }
     ensures removed { log.new.removed ≡ log.old.removed }
     ensures told { OnErr result (log.new ≡ log.old) }
+    // Where the store is said to be full, it lacks room as it is now for what is to be committed next.
+    ensures full { IsTrue S.tells → (next : Next) (first : World) (since : ℕ)
+        → IsNoted first (S.world site.old) graph.old.nodes
+        → IsKeptSince S.Site.own next first since site.old
+        → IfErr result (FillsStore (S.world site.new)) }
     ensures stops { IfErr result StopsReading }
     ensures counted { HasCountedCause (S.faults site.old) (S.faults site.new) (result_err result) }
 {
@@ -153,6 +159,8 @@ fn swapped<S: Site>(
     ensures none { RunsNone log.old log.new }
     ensures removed { log.new.removed ≡ log.old.removed }
     ensures told { OnErr result (log.new ≡ log.old) }
+    ensures full { IsTrue S.tells → let sources = sources_of graph.old.nodes (S.world site.old).tree in
+        IsRefresh graph.old.nodes sources (Ok found) → IfErr result (FillsStore (S.world site.new)) }
     ensures stops { IfErr result StopsReading }
     ensures counted { HasCountedCause (S.faults site.old) (S.faults site.new) (result_err result) }
 {

@@ -24,10 +24,12 @@ ghost use Rattle.tup_promise.specs.Users.{HasUsersFile};
 ghost use Rattle.tup_phases.specs.Kept.{BlamesSources, HoldsWithin, IsBrought, IsKeptSince, KeepsRuns, OwnsOn, StaysBrought};
 ghost use Rattle.tup_phases.specs.Prepared.{HasSeen, LogsBefore, RunsNone};
 ghost use Rattle.tup_phases.specs.Prepared.{StopsBefore, StopsClearing, StopsOpened};
+ghost use Rattle.tup_phases.specs.Room.{FillsStore};
 ghost use Rattle.tup_phases.specs.Spared.{LeavesTree};
 
 use crate::surveying::surveyed;
 use std::alloc::Global;
+use std::thread::Threads;
 use tup_law_board::cleared_are_unseen;
 use tup_promise::{Log, Stop};
 use tup_site::Site;
@@ -38,7 +40,13 @@ use tup_stored_graph::Graph;
 /// which Tupfiles were read and which files were removed.
 ///
 /// A store that is empty or can't be read is told so, and then nothing else is done.
-pub fn prepared<S: Site>(alloc: Global, site: &mut S, log: &mut Log) -> Result<Graph, Stop>
+pub fn prepared<W: Threads + Sync, S: Site>(
+    rt: &W,
+    alloc: Global,
+    site: &mut S,
+    log: &mut Log,
+    workers: usize,
+) -> Result<Graph, Stop>
     requires { IsEmptyLog log.old }
     ensures fresh { IfOk result (λ graph. IsTrue (is_fresh graph)) }
     ensures stands { IsTrue S.tells
@@ -102,10 +110,14 @@ pub fn prepared<S: Site>(alloc: Global, site: &mut S, log: &mut Log) -> Result<G
     ensures logged { IfErr result (LogsBefore log.new) }
     ensures spares { IsTrue S.tells
         → IfErr result (LeavesTree (S.world site.old) (S.world site.new)) }
+    // Where the store is said to be full, it lacks room as it is now for what is to be committed next.
+    ensures full { IsTrue S.tells → (next : Next)
+        → IsKeptNow S.Site.own next tupfiles (S.known site.old) site.old
+        → IfErr result (FillsStore (S.world site.new)) }
     ensures stops { IfErr result StopsBefore }
     ensures counted { HasCountedCause (S.faults site.old) (S.faults site.new) (result_err result) }
 {
-    let mut graph = surveyed(alloc, site, log, true)?;
+    let mut graph = surveyed(rt, alloc, site, log, workers, true)?;
     cleared(alloc, site, &mut graph, log)?;
     Ok(graph)
 }
@@ -161,6 +173,8 @@ fn cleared<S: Site>(
     ensures clears { IfErr result StopsClearing }
     ensures spares { IsTrue S.tells
         → IfErr result (LeavesTree (S.world site.old) (S.world site.new)) }
+    // Where the store is said to be full, it lacks room as it is now for what is to be committed next.
+    ensures full { IsTrue S.tells → IfErr result (FillsStore (S.world site.new)) }
     ensures stops { IfErr result StopsOpened }
     ensures counted { HasCountedCause (S.faults site.old) (S.faults site.new) (result_err result) }
 {
@@ -168,6 +182,5 @@ fn cleared<S: Site>(
     // A law: while the graph is fresh, the store stands for its nodes.
     let _ = graph.nodes();
     log.removed = clear(alloc, graph, site)?;
-    let _ = graph.nodes();
     Ok(())
 }

@@ -19,14 +19,17 @@ ghost use Rattle.tup_promise.specs.declared.log.Log.{Log as LogValue};
 ghost use Rattle.tup_phases.specs.Kept.{BlamesSources, HoldsWithin, IsBrought, IsKeptSince, IsScannedFrom, KeepsOn, LeavesFiles, OwnsOn};
 ghost use Rattle.tup_phases.specs.Prepared.{HasSeen, RunsNone};
 ghost use Rattle.tup_phases.specs.Prepared.{StopsReading, StopsSurvey};
+ghost use Rattle.tup_phases.specs.Room.{FillsStore};
 
 use crate::bringing::brought;
 use std::alloc::Global;
+use std::thread::Threads;
 use tup_commit::{note_scan, scans_see};
 use tup_partial::flags_are_of_rules;
 use tup_path::Bytes;
 use tup_promise::{Log, Stop};
-use tup_scan::{Still, scan};
+use tup_scan::Still;
+use tup_scan_crew::scan_by;
 use tup_site::Site;
 use tup_stored_graph::{Graph, reads_keep_graphs};
 
@@ -34,11 +37,14 @@ use tup_stored_graph::{Graph, reads_keep_graphs};
 /// it owns without a rule is what no rule makes any more. The log is told which Tupfiles were read. No file changes.
 ///
 /// A store that is empty or can't be read is told so, and then nothing else is done. Where it `compacts`, a store is compacted
-/// that has more than 1,048,576 bytes and more than four times as many as are live.
-pub fn surveyed<S: Site>(
+/// that has more than 1,048,576 bytes and more than four times as many as are live. The files are digested in as many threads
+/// at once as there are workers.
+pub fn surveyed<W: Threads + Sync, S: Site>(
+    rt: &W,
     alloc: Global,
     site: &mut S,
     log: &mut Log,
+    workers: usize,
     compacts: bool,
 ) -> Result<Graph, Stop>
     requires { IsEmptyLog log.old }
@@ -81,11 +87,15 @@ pub fn surveyed<S: Site>(
     ensures none { RunsNone log.old log.new }
     ensures removed { log.new.removed ≡ log.old.removed }
     ensures logged { IfErr result (λ _. IsEmptyLog log.new) }
+    // Where the store is said to be full, it lacks room as it is now for what is to be committed next.
+    ensures full { IsTrue S.tells → (next : Next)
+        → IsKeptNow S.Site.own next tupfiles (S.known site.old) site.old
+        → IfErr result (FillsStore (S.world site.new)) }
     ensures stops { IfErr result StopsSurvey }
     ensures counted { HasCountedCause (S.faults site.old) (S.faults site.new) (result_err result) }
 {
     let mut graph = opened(alloc, site)?;
-    let config = noted(alloc, site, &mut graph, compacts)?;
+    let config = noted(rt, alloc, site, &mut graph, workers, compacts)?;
     brought(alloc, site, &mut graph, &config, log)?;
     Ok(graph)
 }
@@ -108,6 +118,8 @@ fn opened<S: Site>(alloc: Global, site: &mut S) -> Result<Graph, Stop>
     // Nothing else was done.
     ensures unopened { IsTrue S.tells → (log : LogValue) → IsEmptyLog log
         → Unopened (S.world site.old) (S.world site.new) log (result_err result) }
+    // It is never said to be full.
+    ensures full { (w : World) → IfErr result (FillsStore w) }
     ensures stops { IfErr result StopsSurvey }
     ensures counted { HasCountedCause (S.faults site.old) (S.faults site.new) (result_err result) }
 {
@@ -117,10 +129,12 @@ fn opened<S: Site>(alloc: Global, site: &mut S) -> Result<Graph, Stop>
 
 /// Notes in the graph what changed among the files, and gives the content of tup.config. The store is compacted first where
 /// that is wanted and worth it.
-fn noted<S: Site>(
+fn noted<W: Threads + Sync, S: Site>(
+    rt: &W,
     alloc: Global,
     site: &mut S,
     graph: &mut Graph,
+    workers: usize,
     compacts: bool,
 ) -> Result<Option<Bytes>, Stop>
     requires fresh { IsTrue (is_fresh graph.old) }
@@ -148,11 +162,13 @@ fn noted<S: Site>(
     ensures owns { IsTrue S.tells → OwnsOn S.Site.own site.old site.new }
     ensures blame { IsTrue S.tells → (first : World) → TreeStays first (S.world site.old)
         → IfErr result (BlamesSources first) }
+    // Where the store is said to be full, it lacks room as it is now for what is to be committed next.
+    ensures full { IsTrue S.tells → IfErr result (FillsStore (S.world site.new)) }
     ensures stops { IfErr result StopsReading }
     ensures counted { HasCountedCause (S.faults site.old) (S.faults site.new) (result_err result) }
 {
     tidied(alloc, site, graph, compacts)?;
-    scanned(alloc, site, graph)
+    scanned(rt, alloc, site, graph, workers)
 }
 
 /// Compacts the store of a graph where that is wanted and worth it.
@@ -178,6 +194,8 @@ fn tidied<S: Site>(
         → HoldsWithin first (S.world site.new) }
     ensures owns { IsTrue S.tells → OwnsOn S.Site.own site.old site.new }
     ensures blame { (first : World) → IfErr result (BlamesSources first) }
+    // It is never said to be full.
+    ensures full { (w : World) → IfErr result (FillsStore w) }
     ensures stops { IfErr result StopsReading }
     ensures counted { HasCountedCause (S.faults site.old) (S.faults site.new) (result_err result) }
 {
@@ -197,7 +215,13 @@ fn tidied<S: Site>(
 }
 
 /// Scans the files, notes in the graph what changed among them, and gives the content of tup.config.
-fn scanned<S: Site>(alloc: Global, site: &mut S, graph: &mut Graph) -> Result<Option<Bytes>, Stop>
+fn scanned<W: Threads + Sync, S: Site>(
+    rt: &W,
+    alloc: Global,
+    site: &mut S,
+    graph: &mut Graph,
+    workers: usize,
+) -> Result<Option<Bytes>, Stop>
     requires fresh { IsTrue (is_fresh graph.old) }
     requires stands { IsTrue S.tells
         → StandsFor S.world S.moment S.left_since graph.old site.old }
@@ -223,6 +247,8 @@ fn scanned<S: Site>(alloc: Global, site: &mut S, graph: &mut Graph) -> Result<Op
     ensures owns { IsTrue S.tells → OwnsOn S.Site.own site.old site.new }
     ensures blame { IsTrue S.tells → (first : World) → TreeStays first (S.world site.old)
         → IfErr result (BlamesSources first) }
+    // Where the store is said to be full, it lacks room as it is now for what is to be committed next.
+    ensures full { IsTrue S.tells → IfErr result (FillsStore (S.world site.new)) }
     ensures stops { IfErr result StopsReading }
     ensures counted { HasCountedCause (S.faults site.old) (S.faults site.new) (result_err result) }
 {
@@ -231,7 +257,7 @@ fn scanned<S: Site>(alloc: Global, site: &mut S, graph: &mut Graph) -> Result<Op
     flags_are_of_rules();
     // A law: while the graph is fresh, the store stands for its nodes.
     let _ = graph.nodes();
-    let seen = scan(alloc, site, &Still)?;
+    let seen = scan_by(rt, alloc, site, &Still, workers)?;
     note_scan(alloc, graph, site, &seen)?;
     Ok(seen.config)
 }

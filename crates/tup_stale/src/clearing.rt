@@ -2,6 +2,8 @@
 ghost use Rattle.std.specs.Prelude.{◌≡◌, [], IsTrue, IfOk, OnOk};
 ghost use Rattle.tup_site.specs.Crash.{GoesOn};
 ghost use Rattle.tup_site.specs.Known.{Keeps};
+ghost use Rattle.tup_table.specs.Table.{entries_in};
+ghost use Rattle.tup_graph.specs.Opening.{IsGraphOf};
 ghost use Rattle.tup_stored_graph.specs.Held.{is_fresh, StandsFor};
 ghost use Rattle.tup_stale.specs.Cause.{CountsFaults, OnlyLarge, IsStopped};
 ghost use Rattle.tup_stale.specs.Cleared.{Leaves, AllAreMade, SparesUsers};
@@ -43,6 +45,8 @@ pub fn clear<S: Site>(alloc: Global, graph: &mut Graph, site: &mut S) -> Result<
         tree (S.world site.new).tree }
     ensures all_made { IfOk result (λ _. AllAreMade graph.new.nodes) }
     ensures fresh { OnOk result (IsTrue (is_fresh graph.new)) }
+    ensures graph { IsTrue (is_fresh graph.new)
+        → IsGraphOf (entries_in graph.new.table) graph.new.nodes }
     ensures nothing { unmade_in graph.old.nodes ≡ []
         → (graph.new ≡ graph.old) × (site.new ≡ site.old) }
     ensures stands { IsTrue S.tells → IsTrue (is_fresh graph.new)
@@ -59,7 +63,10 @@ pub fn clear<S: Site>(alloc: Global, graph: &mut Graph, site: &mut S) -> Result<
     if paths.len() == 0 {
         return Ok(paths);
     }
-    clear_paths(alloc, graph, site, paths.as_slice())
+    let cleared = clear_paths(alloc, graph, site, paths.as_slice());
+    // A law: while the graph is fresh, the store stands for its nodes.
+    let _ = graph.nodes();
+    cleared
 }
 
 /// Clears these owned paths.

@@ -8,6 +8,7 @@ ghost use Rattle.tup_law_site.specs.Over.{IsKeptNow};
 ghost use Rattle.tup_law_phases.specs.Language.{tupfiles};
 ghost use Rattle.tup_phases.specs.Kept.{BlamesSources, LeavesFiles};
 ghost use Rattle.tup_phases.specs.Prepared.{StopsSurvey};
+ghost use Rattle.tup_phases.specs.Room.{FillsStore};
 ghost use Rattle.tup_promise.specs.Cause.{HasCountedCause};
 ghost use Rattle.tup_promise.specs.Crashes.{SourcesAndCrashes, SourcesStay};
 ghost use Rattle.tup_promise.specs.Kept.{IsKeptBySome};
@@ -18,6 +19,7 @@ ghost use Rattle.tup_todo.specs.Lists.{GoesOnFromStore, ListsWhatIsDue};
 
 use crate::listing::{DueRule, due, vanished};
 use std::alloc::Global;
+use std::thread::Threads;
 use tup_ends::{kept_sites_keep_sources, kept_states_are_states};
 use tup_partial::flags_are_of_rules;
 use tup_path::{Items, Paths};
@@ -40,7 +42,12 @@ pub struct Todo {
 /// rule makes any more and the rules that have to be run. No file is changed.
 ///
 /// A file that was changed by hand and that no rule makes is listed as any other; an update would refuse it.
-pub fn todo_site<S: Site>(alloc: Global, site: &mut S) -> Result<Todo, Stop>
+pub fn todo_site<W: Threads + Sync, S: Site>(
+    rt: &W,
+    alloc: Global,
+    site: &mut S,
+    workers: usize,
+) -> Result<Todo, Stop>
     // Whatever the store is.
     ensures unopened { IsTrue S.tells
         → GoesOnFromStore (S.world site.old) (S.world site.new) (result_err result) }
@@ -67,6 +74,10 @@ pub fn todo_site<S: Site>(alloc: Global, site: &mut S) -> Result<Todo, Stop>
     ensures blamed { IsTrue S.tells → (next : Next)
         → IsKeptNow S.Site.own next tupfiles (S.known site.old) site.old
         → IfErr result (BlamesSources (S.world site.old)) }
+    // And where the store is said to be full, it lacks room as it is now for what is to be committed next.
+    ensures full { IsTrue S.tells → (next : Next)
+        → IsKeptNow S.Site.own next tupfiles (S.known site.old) site.old
+        → IfErr result (FillsStore (S.world site.new)) }
     ensures sources_stay { IsTrue S.tells → IsKeptBySome S.Site.own site.old
         → SourcesStay S.Site.own site.old site.new }
     // Whatever the site is.
@@ -77,7 +88,7 @@ pub fn todo_site<S: Site>(alloc: Global, site: &mut S) -> Result<Todo, Stop>
     kept_states_are_states();
     flags_are_of_rules();
     let mut log = Log::new(alloc);
-    let graph = surveyed(alloc, site, &mut log, false)?;
+    let graph = surveyed(rt, alloc, site, &mut log, workers, false)?;
     let removes = vanished(alloc, graph.nodes())?;
     let runs = due(alloc, graph.nodes())?;
     Ok(Todo {

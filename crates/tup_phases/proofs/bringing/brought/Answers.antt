@@ -23,6 +23,8 @@ use Rattle.tup_promise.proofs.Handed.{err_if, err_so}
 use Rattle.tup_phases.specs.Prepared.{StopsReading}
 use Rattle.tup_phases.proofs.Seeing.{seen_again}
 use Rattle.tup_phases.proofs.Stopping.{counted_before, refresh_counted, refresh_opened}
+use Rattle.tup_phases.specs.Room.{FillsStore}
+use Rattle.tup_phases.proofs.Filling.{refresh_fills}
 use Rattle.tup_phases.proofs.bringing.brought.Goals as goal
 
 -- ---- they couldn't be read
@@ -289,3 +291,24 @@ returns-clause-trees g c = λ tells.
     let mid = c.refresh.new.site in
     trees_both g.S.Site tells site_laws.earlier site_laws.present c.args.site.now mid c.swapped.new.site (trees_by g.S.Site tells site_laws.earlier site_laws.present c.args.site.now mid NoStep (λ v w none. absurd none) (c.refresh.ensures.crash tells))
     (c.swapped.ensures.trees tells)
+
+-- ---- what a store lacks room for that is said to be full
+
+pub returns-in_err-found-clause-full : goal.returns-in_err-found-clause-full
+returns-in_err-found-clause-full g c = λ tells next first since noted kept.
+    let fault = c.in_err-found.field-0.0 in
+    let now = g.S.Site.world c.refresh.new.site in
+    err_if c.from_residual.result (stop_of_refresh fault) (FillsStore now) c.from_residual.ensures.1 (refresh_fills now fault)
+
+pub returns-clause-full : goal.returns-clause-full
+returns-clause-full g c = λ tells next first since noted kept.
+    let site_laws = g.met.S.Site in
+    let at = c.args.site.now in
+    let graph = c.args.graph.now in
+    let tree = (g.S.Site.world at).tree in
+    let known = g.S.Site.known at in
+    let found = c.in_ok-found.found in
+    let is = subst (IsGraphOf (entries_in graph.table)) c.nodes.ensures.value (c.nodes.ensures.graph c.requires.fresh) in
+    let kept_now = graph_kept g.S.Site tells site_laws.earlier site_laws.present next first since graph at (c.requires.stands tells) is kept in
+    let refreshed = refreshed_of next known graph.nodes c.nodes.result.now tree c.args.config.now (Ok found) c.nodes.ensures.value (site_laws.is_known at tells) (site_laws.knows_tree at tells) kept_now (c.requires.seen tells) (c.requires.config tells) (c.in_ok-found.ensures.refreshed tells) in
+    c.swapped.ensures.full tells (subst (λ (w : World). IsRefresh graph.nodes (sources_of graph.nodes w.tree) (Ok found)) (sym (c.refresh.ensures.same tells)) refreshed)

@@ -1,4 +1,4 @@
-use Rattle.std.proofs.Common.{inr, ⊎_elim, Err, sym, subst, List, Ok, arith, refl}
+use Rattle.std.proofs.Common.{inl, inr, ⊎_elim, Err, sym, subst, List, Ok, arith, refl}
 use Rattle.tup_phases.proofs.Owning.{noted_owns, own_here, stored_over, swap_owned}
 use Rattle.tup_project.specs.Project.{ComeTo, AreLinked}
 use Rattle.tup_refresh.proofs.Ending.{refreshed_read}
@@ -31,6 +31,8 @@ use Rattle.tup_promise.proofs.Handed.{err_if, err_so}
 use Rattle.tup_phases.specs.Prepared.{StopsReading}
 use Rattle.tup_phases.proofs.Seeing.{seen_again, seen_alike}
 use Rattle.tup_phases.proofs.Stopping.{graph_counted, link_counted, link_opened, note_opened}
+use Rattle.tup_phases.specs.Room.{FillsStore}
+use Rattle.tup_phases.proofs.Filling.{link_fills, note_fills}
 use Rattle.tup_phases.proofs.bringing.swapped.Goals as goal
 
 -- ---- the readings come to no rules
@@ -346,3 +348,27 @@ returns-clause-trees g c = λ tells.
     let found = c.args.found in
     trees_by g.S.Site tells site_laws.earlier site_laws.present c.args.site.now c.swap_rules.new.site (NoteStep c.args.graph.now.nodes (IsSwapped c.args.graph.now.nodes found.fresh found.gone c.as_slice-3.result.now)) (λ v w step. step.tree)
     (c.swap_rules.ensures.crash tells).on
+
+-- ---- what a store lacks room for that is said to be full
+
+pub returns-in_err-rules-clause-full : goal.returns-in_err-rules-clause-full
+returns-in_err-rules-clause-full g c = λ tells refreshed.
+    let fault = c.in_err-rules.field-0.0 in
+    let now = g.S.Site.world c.args.site.now in
+    err_if c.from_residual.result (stop_of_project fault) (FillsStore now) c.from_residual.ensures.1 (link_fills now fault)
+
+pub returns-in_err-read-clause-full : goal.returns-in_err-read-clause-full
+returns-in_err-read-clause-full g c = λ tells refreshed. err_if c.from_residual-in_err-read.result no_memory (FillsStore (g.S.Site.world c.args.site.now)) c.from_residual-in_err-read.ensures.1 tt
+
+pub returns-in_err-swap_rules-clause-full : goal.returns-in_err-swap_rules-clause-full
+returns-in_err-swap_rules-clause-full g c = λ tells refreshed.
+    let fault = c.in_err-swap_rules.field-0.0 in
+    let at = c.args.site.now in
+    let graph = c.args.graph.now in
+    let rules = c.as_slice-3.result.now in
+    let found = c.args.found in
+    let is = subst (IsGraphOf (entries_in graph.table)) c.nodes.ensures.value (c.nodes.ensures.graph c.requires.fresh) in
+    let linked = subst (λ (all : List (Names × Reading)). AreLinked all rules) c.as_slice.ensures (subst (AreLinked c.as_slice.result.now) (sym c.as_slice-3.ensures) c.in_ok-rules.ensures.linked) in
+    err_if c.from_residual-in_err-swap_rules.result (stop_of_graph fault) (FillsStore (g.S.Site.world c.swap_rules.new.site)) c.from_residual-in_err-swap_rules.ensures.1
+    (note_fills g.S.Site graph at (c.requires.stands tells) is (AreSwapEdits graph.nodes found.fresh found.gone rules) c.swap_rules.new.graph c.swap_rules.new.site c.swap_rules.result fault c.in_err-swap_rules.was c.swap_rules.ensures.swaps
+    (λ edits are. inr (inl (found, rules, refreshed, linked, are))))

@@ -19,6 +19,8 @@ use Rattle.tup_phases.specs.Prepared.{StopsClearing, StopsOpened}
 use Rattle.tup_phases.proofs.Seeing.{seen_cleared}
 use Rattle.tup_phases.proofs.Stopping.{stale_counted, stale_opened}
 use Rattle.tup_phases.proofs.Telling.{stale_clears, stale_spares}
+use Rattle.tup_phases.specs.Room.{FillsStore}
+use Rattle.tup_phases.proofs.Filling.{clear_fills}
 use Rattle.tup_phases.proofs.preparing.cleared.Goals as goal
 
 pub returns-in_err-log-clause-stops : goal.returns-in_err-log-clause-stops
@@ -95,7 +97,7 @@ returns-clause-stays g c =
     record { created = ap (λ (h : Held). h.nodes.created) is; rules = ap (λ (h : Held). h.nodes.rules) is; runs = ap (λ (h : Held). h.nodes.runs) is; flags = ap (λ (h : Held). h.nodes.flags) is }
 
 pub returns-clause-graph : goal.returns-clause-graph
-returns-clause-graph g c = subst (IsGraphOf (entries_in c.clear.new.graph.table)) c.nodes-2.ensures.value (c.nodes-2.ensures.graph c.in_ok-log.ensures.fresh)
+returns-clause-graph g c = c.clear.ensures.graph c.in_ok-log.ensures.fresh
 
 pub returns-in_err-log-clause-within : goal.returns-in_err-log-clause-within
 returns-in_err-log-clause-within g c = λ tells next first since holds kept.
@@ -167,3 +169,15 @@ returns-clause-trees g c = λ tells first brought same has.
     let site_laws = g.met.S.Site in
     ⊎_elim (λ none. absurd (none_met first c.args.graph.now.nodes (g.S.Site.world c.args.site.now).tree brought same has none))
     (λ all. trees_by g.S.Site tells site_laws.earlier site_laws.present c.args.site.now c.clear.new.site NoStep (λ v w none. absurd none) all.2) (c.clear.ensures.users tells)
+
+-- ---- what a store lacks room for that is said to be full
+
+pub returns-in_err-log-clause-full : goal.returns-in_err-log-clause-full
+returns-in_err-log-clause-full g c = λ tells.
+    let fault = c.in_err-log.field-0.0 in
+    let at = c.args.site.now in
+    let graph = c.args.graph.now in
+    let is = subst (IsGraphOf (entries_in graph.table)) c.nodes.ensures.value (c.nodes.ensures.graph c.requires.fresh) in
+    err_if c.from_residual.result (stop_of_stale fault) (FillsStore (g.S.Site.world c.clear.new.site)) c.from_residual.ensures.1
+    (clear_fills g.S.Site tells graph c.clear.new.graph at c.clear.new.site (standing (g.S.Site.world at).tree (unmade graph.nodes)) c.requires.fresh (c.requires.stands tells) is (c.clear.ensures.stands tells) c.clear.ensures.graph fault
+    c.in_err-log.ensures.leaves)

@@ -12,6 +12,7 @@ use Rattle.tup_phases.proofs.Opening.{stopped_later}
 use Rattle.tup_phases.proofs.Stopping.{counted_before, none_both, opened_before, survey_before}
 use Rattle.tup_phases.proofs.Telling.{cleared_logs, empty_logs, same_tree, tree_on}
 use Rattle.tup_phases.proofs.Within.{within_over}
+use Rattle.tup_phases.specs.Room.{FillsStore}
 use Rattle.tup_phases.proofs.preparing.prepared.Goals as goal
 
 -- ---- it isn't known what is to be done
@@ -297,3 +298,13 @@ returns-clause-trees g c = λ tells next kept has.
 
 pub returns-clause-limits : goal.returns-clause-limits
 returns-clause-limits g c = λ tells. c.in_ok-graph.ensures.limits tells
+
+-- ---- what a store lacks room for that is said to be full
+
+pub returns-in_err-graph-clause-full : goal.returns-in_err-graph-clause-full
+returns-in_err-graph-clause-full g c = λ tells next kept.
+    err_if c.from_residual.result c.in_err-graph.field-0.0 (FillsStore (g.S.Site.world c.surveyed.new.site)) c.from_residual.ensures.1 (c.in_err-graph.ensures.full tells next kept)
+
+pub returns-in_err-cleared-clause-full : goal.returns-in_err-cleared-clause-full
+returns-in_err-cleared-clause-full g c = λ tells next kept.
+    err_if c.from_residual-in_err-cleared.result c.in_err-cleared.field-0.0 (FillsStore (g.S.Site.world c.cleared.new.site)) c.from_residual-in_err-cleared.ensures.1 (c.in_err-cleared.ensures.full tells)

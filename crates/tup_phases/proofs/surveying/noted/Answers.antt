@@ -12,6 +12,7 @@ use Rattle.tup_phases.specs.Kept.{BlamesSources, IsScannedFrom}
 use Rattle.tup_phases.specs.Prepared.{StopsReading}
 use Rattle.tup_phases.proofs.Keeping.{files_both, trees_both}
 use Rattle.tup_phases.proofs.Stopping.{counted_before}
+use Rattle.tup_phases.specs.Room.{FillsStore}
 use Rattle.tup_phases.proofs.surveying.noted.Goals as goal
 
 -- ---- the store wasn't compacted
@@ -76,3 +77,13 @@ returns-clause-blame g c = λ tells first same.
 pub returns-clause-counted : goal.returns-clause-counted
 returns-clause-counted g c =
     counted_before (g.S.Site.faults c.args.site.now) (g.S.Site.faults c.tidied.new.site) (g.S.Site.faults c.scanned.new.site) (result_err c.scanned.result) c.in_ok-tidied.ensures.counted c.scanned.ensures.counted
+
+-- ---- what a store lacks room for that is said to be full
+
+pub returns-in_err-tidied-clause-full : goal.returns-in_err-tidied-clause-full
+returns-in_err-tidied-clause-full g c = λ tells.
+    let now = g.S.Site.world c.tidied.new.site in
+    err_if c.from_residual.result c.in_err-tidied.field-0.0 (FillsStore now) c.from_residual.ensures.1 (c.in_err-tidied.ensures.full now)
+
+pub returns-clause-full : goal.returns-clause-full
+returns-clause-full g c = λ tells. c.scanned.ensures.full tells

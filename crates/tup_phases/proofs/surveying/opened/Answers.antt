@@ -1,3 +1,4 @@
+use Rattle.std.proofs.Common.{Err, ap, ◌∙◌}
 use Rattle.tup_phases.proofs.Owning.{opening_owns}
 use Rattle.tup_phases.specs.Kept.{BlamesSources}
 use Rattle.tup_phases.proofs.Blaming.{graph_blames}
@@ -13,6 +14,8 @@ use Rattle.tup_promise.proofs.Handed.{err_if, err_so}
 use Rattle.tup_phases.specs.Prepared.{StopsSurvey}
 use Rattle.tup_phases.proofs.Opening.{readable, refused}
 use Rattle.tup_phases.proofs.Stopping.{graph_before, graph_counted}
+use Rattle.tup_phases.specs.Room.{FillsStore}
+use Rattle.tup_phases.proofs.Filling.{open_fills}
 use Rattle.tup_phases.proofs.surveying.opened.Goals as goal
 
 pub returns-in_err-open-clause-unopened : goal.returns-in_err-open-clause-unopened
@@ -103,3 +106,10 @@ returns-in_err-open-clause-crash g c = λ tells. c.open.ensures.crash tells
 
 pub returns-clause-crash : goal.returns-clause-crash
 returns-clause-crash g c = λ tells. c.open.ensures.crash tells
+
+-- ---- what a store lacks room for that is said to be full
+
+pub returns-in_err-open-clause-full : goal.returns-in_err-open-clause-full
+returns-in_err-open-clause-full g c = λ w.
+    let fault = c.in_err-open.field-0.0 in
+    err_if c.from_residual.result (stop_of_graph fault) (FillsStore w) c.from_residual.ensures.1 (open_fills w fault (λ full. c.open.ensures.never_full (c.in_err-open.was ∙ ap Err full)))

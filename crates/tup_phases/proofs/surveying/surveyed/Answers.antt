@@ -13,6 +13,7 @@ use Rattle.tup_phases.specs.Prepared.{StopsSurvey}
 use Rattle.tup_phases.proofs.Keeping.{files_both, since_now, trees_both, trees_by}
 use Rattle.tup_phases.proofs.Opening.{stopped_later}
 use Rattle.tup_phases.proofs.Stopping.{counted_before, reading_opened, reading_surveys}
+use Rattle.tup_phases.specs.Room.{FillsStore}
 use Rattle.tup_phases.proofs.surveying.surveyed.Goals as goal
 
 -- ---- what was noted is brought
@@ -300,3 +301,25 @@ returns-clause-trees g c = λ tells.
 
 pub returns-clause-limits : goal.returns-clause-limits
 returns-clause-limits g c = λ tells. subst IsWithinLimits (c.opened.ensures.files tells).tree (c.in_ok-config.ensures.limits tells)
+
+-- ---- what a store lacks room for that is said to be full
+
+pub returns-in_err-graph-clause-full : goal.returns-in_err-graph-clause-full
+returns-in_err-graph-clause-full g c = λ tells next kept.
+    let now = g.S.Site.world c.opened.new.site in
+    err_if c.from_residual.result c.in_err-graph.field-0.0 (FillsStore now) c.from_residual.ensures.1 (c.in_err-graph.ensures.full now)
+
+pub returns-in_err-config-clause-full : goal.returns-in_err-config-clause-full
+returns-in_err-config-clause-full g c = λ tells next kept.
+    err_if c.from_residual-in_err-config.result c.in_err-config.field-0.0 (FillsStore (g.S.Site.world c.noted.new.site)) c.from_residual-in_err-config.ensures.1 (c.in_err-config.ensures.full tells)
+
+pub returns-in_err-brought-clause-full : goal.returns-in_err-brought-clause-full
+returns-in_err-brought-clause-full g c = λ tells next kept.
+    let old = c.args.site.now in
+    let first = g.S.Site.world old in
+    let since = g.S.Site.moment old in
+    let opened = c.opened.ensures.kept tells next first since (since_now g.S.Site next old kept) in
+    let scanned = c.noted.ensures.kept tells next first since opened in
+    let files = files_both g.S.Site old c.opened.new.site c.noted.new.site (c.opened.ensures.files tells) (c.noted.ensures.files tells) in
+    let noted : IsNoted first (g.S.Site.world c.noted.new.site) c.noted.new.graph.nodes = record { was = c.in_ok-graph.graph.nodes; stored = c.in_ok-graph.ensures.stored tells; scanned = c.in_ok-config.ensures.scanned; tree = files.tree } in
+    err_if c.from_residual-in_err-brought.result c.in_err-brought.field-0.0 (FillsStore (g.S.Site.world c.brought.new.site)) c.from_residual-in_err-brought.ensures.1 (c.in_err-brought.ensures.full tells next first since noted scanned)

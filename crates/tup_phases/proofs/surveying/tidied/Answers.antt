@@ -13,6 +13,8 @@ use Rattle.tup_phases.proofs.Keeping.{files_both, files_read, since_read, trees_
 use Rattle.tup_phases.proofs.Owning.{read_owns}
 use Rattle.tup_phases.proofs.Stopping.{counted_before, graph_counted, site_counted}
 use Rattle.tup_phases.proofs.Tidying.{tidied_keeps, tidied_owns, tidied_trees, tidied_within, tidying_reads, untouched}
+use Rattle.tup_phases.specs.Room.{FillsStore}
+use Rattle.tup_phases.proofs.Filling.{outside_fills}
 use Rattle.tup_phases.proofs.surveying.tidied.Goals as goal
 
 -- ---- nothing is to be done
@@ -288,3 +290,13 @@ returns-clause-owns g c = λ tells begun since within owns.
 pub returns-clause-counted : goal.returns-clause-counted
 returns-clause-counted g c =
     c.compact.ensures.cause.steady (λ e. cc (c.in_ok-compact.was, e)) ∙ c.db_len.ensures.cause.steady (λ e. cc (c.in_ok-len.was, e))
+
+-- ---- what a store lacks room for that is said to be full
+
+pub returns-in_err-len-clause-full : goal.returns-in_err-len-clause-full
+returns-in_err-len-clause-full g c = λ w. err_if c.from_residual.result (Outside c.in_err-len.field-0.0) (FillsStore w) c.from_residual.ensures.1 tt
+
+pub returns-in_err-compact-clause-full : goal.returns-in_err-compact-clause-full
+returns-in_err-compact-clause-full g c = λ w.
+    let fault = c.in_err-compact.field-0.0 in
+    err_if c.from_residual-in_err-compact.result (stop_of_graph fault) (FillsStore w) c.from_residual-in_err-compact.ensures.1 (outside_fills w fault c.in_err-compact.ensures.outside)

@@ -10,6 +10,7 @@ use Rattle.tup_promise.specs.Stopped.{no_memory}
 use Rattle.tup_promise.proofs.Handed.{err_if, err_so}
 use Rattle.tup_phases.specs.Kept.{BlamesSources}
 use Rattle.tup_phases.specs.Prepared.{StopsSurvey}
+use Rattle.tup_phases.specs.Room.{FillsStore}
 use Rattle.tup_phases.proofs.Keeping.{graph_kept, now_kept, over, same_sources}
 use Rattle.tup_phases.proofs.Within.{own_within}
 use Rattle.tup_todo.specs.Listing.{due_rules, vanished}
@@ -236,3 +237,17 @@ returns-in_err-runs-clause-closed g c = λ tells closed. c.surveyed.ensures.clos
 
 pub returns-clause-closed : goal.returns-clause-closed
 returns-clause-closed g c = λ tells closed. c.surveyed.ensures.closed tells closed
+
+-- ---- what a store lacks room for that is said to be full
+
+pub returns-in_err-graph-clause-full : goal.returns-in_err-graph-clause-full
+returns-in_err-graph-clause-full g c = λ tells next kept.
+    err_if c.from_residual.result c.in_err-graph.field-0.0 (FillsStore (g.S.Site.world c.surveyed.new.site)) c.from_residual.ensures.1 (c.in_err-graph.ensures.full tells next kept)
+
+pub returns-in_err-removes-clause-full : goal.returns-in_err-removes-clause-full
+returns-in_err-removes-clause-full g c = λ tells next kept.
+    err_if c.from_residual-in_err-removes.result no_memory (FillsStore (g.S.Site.world c.surveyed.new.site)) c.from_residual-in_err-removes.ensures.1 tt
+
+pub returns-in_err-runs-clause-full : goal.returns-in_err-runs-clause-full
+returns-in_err-runs-clause-full g c = λ tells next kept.
+    err_if c.from_residual-in_err-runs.result no_memory (FillsStore (g.S.Site.world c.surveyed.new.site)) c.from_residual-in_err-runs.ensures.1 tt

@@ -1,0 +1,38 @@
+-- Why an update that runs its rules is told that its store is full: there is no room in it for what the run of a rule commits
+-- (own).
+use Rattle.std.specs.Prelude.{◌≡◌, ◌⊎◌, ◌≤◌, ℕ, List, Contains, length, map}
+use Rattle.tup_path.specs.Name.{Names}
+use Rattle.tup_stamp.specs.declared.Stamp.{Stamp}
+use Rattle.tup_site.specs.World.{World}
+use Rattle.tup_rule.specs.Rule.{name_of}
+use Rattle.tup_rule.specs.declared.rule.Rule.{Rule}
+use Rattle.tup_rule.specs.declared.rule.RuleName.{RuleName}
+use Rattle.tup_record.specs.declared.run.RunRecord.{RunRecord}
+use Rattle.tup_graph.specs.Graph.{GraphState}
+use Rattle.tup_graph.specs.Kept.{IsRuleAt}
+use Rattle.tup_graph.specs.Transactions.{begin_edits, finish_edits}
+use Rattle.tup_graph.specs.declared.edit.Edit.{Edit}
+use Rattle.tup_stored_graph.specs.Held.{Held}
+use Rattle.tup_stored_graph.specs.Transaction.{IsFull}
+use Rattle.tup_board.specs.Cause.{StandsForBytes}
+
+-- what a store may be told of a run of a rule: no more than 4,095 paths that its command asked for, and a stamp of each output
+pub record IsRunOf (rule : Rule) (run : RunRecord) : Type 0 where
+  pub few : length run.asks ≤ 4095
+  pub writes : map (λ (file : Names × Stamp). file.0) run.writes ≡ rule.outputs
+
+-- what the run of the rule of a number commits: that its outputs are being made, or that they are
+abbrev pub AreOfRun : GraphState → ℕ → Rule → List Edit → Type 0
+AreOfRun g number rule edits = (edits ≡ begin_edits g number) ⊎ ((run : RunRecord) × IsRunOf rule run × (edits ≡ finish_edits g number run))
+
+-- the store of a world is that of a graph, and has no room for what the run of one of its rules commits, whose command was run
+pub record LacksRoomToRun (w : World) (ran : List RuleName) : Type 0 where
+  pub graph : Held
+  pub stands : StandsForBytes graph w.store
+  pub number : ℕ
+  pub rule : Rule
+  pub here : IsRuleAt graph.nodes number rule
+  pub was_run : Contains ran (name_of rule)
+  pub edits : List Edit
+  pub next : AreOfRun graph.nodes number rule edits
+  pub full : IsFull graph edits
