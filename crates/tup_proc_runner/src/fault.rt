@@ -15,7 +15,7 @@ pub enum ProcFault {
     /// There is no log, it doesn't read, it names a file that isn't there, or the files have other contents than it says.
     #[error("the program's log is bad")]
     BadLog,
-    /// A file of the stage couldn't be made or read.
+    /// A file of the stage couldn't be made or read, or what the program printed couldn't be kept.
     #[error("the stage couldn't be made or read")]
     NoStage,
 }

@@ -1,15 +1,16 @@
 //! The runner that starts a program for each command.
 ghost use Rattle.std.specs.Prelude.{◌≡◌, ◌∷◌, ◌++◌, [], Some, None, Ok, Err, IfOk, IfErr, OnOk};
 ghost use Rattle.std.specs.Process.{command_program, command_args};
+ghost use Rattle.tup_path.specs.Show.{show};
 ghost use Rattle.tup_runner.specs.Run.{CountsFaults};
 ghost use Rattle.tup_proc.specs.Log.{IsLog};
 ghost use Rattle.tup_proc_runner.specs.declared.fault.ProcFault.{ProcFault as FaultValue};
 ghost use Rattle.tup_proc_runner.specs.Asked.{IsOwn};
 ghost use Rattle.tup_proc_runner.specs.Told.{FollowsLog};
-ghost use Rattle.tup_proc_runner.specs.Refused.{IsMemoryOr};
 
 use crate::asking::ask_all;
 use crate::fault::{ProcFault, Refused};
+use crate::printed::Printing;
 use crate::stage::Stage;
 use crate::stages::Stages;
 use std::alloc::{AllocError, Global};
@@ -26,13 +27,22 @@ pub struct ProcRunner<R: Files<File = File> + Processes + Clone + Drop> {
     root: Text,
     program: Text,
     stage: Stage<R>,
+    printing: Printing,
     last: Option<ProcFault>,
     faults: u64,
 }
 
 impl<R: Files<File = File> + Processes + Clone + Drop> ProcRunner<R> {
-    /// A runner of this program for the files below a root, with these stages. It starts nothing yet and takes no memory.
-    pub fn new(rt: R, alloc: Global, root: Text, program: Text, stages: Stages) -> ProcRunner<R>
+    /// A runner of this program for the files below a root, with these stages. What a command prints is kept in the file at a
+    /// place, if there is one. It starts nothing yet and takes no memory.
+    pub fn new(
+        rt: R,
+        alloc: Global,
+        root: Text,
+        program: Text,
+        stages: Stages,
+        kept: Option<Text>,
+    ) -> ProcRunner<R>
         ensures unnamed { result.last ≡ None }
         ensures uncounted { result.faults ≡ 0 }
         ensures words { (result.root ≡ root) × (result.program ≡ program) }
@@ -46,6 +56,10 @@ impl<R: Files<File = File> + Processes + Clone + Drop> ProcRunner<R> {
                 stages,
                 count: 0,
                 folder: Text::from_string(String::new(alloc)),
+            },
+            printing: Printing {
+                place: kept,
+                watch: None,
             },
             last: None,
             faults: 0,
@@ -71,35 +85,21 @@ impl<R: Files<File = File> + Processes + Clone + Drop> ProcRunner<R> {
         ensures uncounted { self.new.faults ≡ self.old.faults }
     {
         self.stage.prepare(alloc, own)?;
-        self.run_in(alloc, dir, text)?;
+        let command = self.command_in(alloc, dir, text)?;
+        self.printing.run(&self.stage.rt, alloc, command)?;
         self.stage.log(alloc)
     }
 
-    /// Runs the program, told of this folder.
-    fn run_in(&self, alloc: Global, dir: &Path, text: &Text) -> Result<(), Refused>
-        ensures { IfErr result (IsMemoryOr ProcFault.NotStarted) }
+    /// The program with its words, told of this folder.
+    fn command_in(&self, alloc: Global, dir: &Path, text: &Text) -> Result<Command, Refused>
+        ensures program { IfOk result (λ command. command_program command ≡ self.now.program) }
+        ensures words { IfOk result (λ command. command_args command
+            ≡ self.now.root ∷ show dir.now ∷ self.now.stage.folder ∷ text.now ∷ []) }
+        ensures memory { IfErr result (λ refused. refused ≡ Refused.Memory) }
     {
         match dir.show(alloc) {
-            Ok(dir) => self.run_with(alloc, &dir, text),
+            Ok(dir) => Ok(self.command(alloc, &dir, text)?),
             Err(_) => Err(Refused::Memory),
-        }
-    }
-
-    /// Runs the program with its words.
-    fn run_with(&self, alloc: Global, dir: &Text, text: &Text) -> Result<(), Refused>
-        ensures { IfErr result (IsMemoryOr ProcFault.NotStarted) }
-    {
-        let mut command = self.command(alloc, dir, text)?;
-        self.wait_for(&mut command)
-    }
-
-    /// Runs a command to its end.
-    fn wait_for(&self, command: &mut Command) -> Result<(), Refused>
-        ensures { IfErr result (IsMemoryOr ProcFault.NotStarted) }
-    {
-        match command.status(&self.stage.rt) {
-            Ok(_) => Ok(()),
-            Err(e) => Err(Refused::of(&e, ProcFault::NotStarted)),
         }
     }
 

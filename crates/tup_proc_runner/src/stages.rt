@@ -1,6 +1,6 @@
 //! The names of stages.
 ghost use Rattle.std.specs.Prelude.{◌≡◌, IfOk};
-ghost use Rattle.tup_proc_runner.specs.Stages.{stage_of};
+ghost use Rattle.tup_proc_runner.specs.Stages.{stage_of, printed_of};
 
 use std::alloc::{AllocError, Global};
 use tup_path::Text;
@@ -30,7 +30,20 @@ impl Stages {
         Ok(Text::from_string(folder))
     }
 
-    /// Whether the stage of a name is one of this update.
+    /// The place beside the stages where what the commands of this runner print may be kept.
+    pub fn printed(&self, alloc: Global) -> Result<Text, AllocError>
+        ensures { IfOk result (λ place. place ≡ printed_of self.now) }
+    {
+        let Stages {
+            above,
+            update,
+            seat,
+        } = self;
+        let place = format!(in alloc; "{above}/{update}-{seat}.printed")?;
+        Ok(Text::from_string(place))
+    }
+
+    /// Whether what has a name beside the stages is of this update.
     pub(crate) fn have(&self, name: &str) -> bool {
         match name.strip_prefix(self.update.as_str()) {
             Some(rest) => rest.starts_with('-'),

@@ -3,6 +3,7 @@ ghost use Rattle.std.specs.Prelude.{◌≡◌, IfOk, string_bytes};
 ghost use Rattle.tup_progress.specs.Lines as specs;
 
 use crate::plain::plain;
+use crate::started::Count;
 use std::alloc::{AllocError, Global};
 use tup_path::{Path, Text};
 
@@ -12,6 +13,9 @@ pub const CLEAR: &str = "\r\x1b[K";
 /// Has the terminal cut what is wider than it is.
 const CUT: &str = "\x1b[?7l";
 
+/// Ends the cutting, and the line.
+const END: &str = "\x1b[?7h\n";
+
 /// Ends the cutting, and puts the cursor behind the last column: what is printed next begins a line of its own, and before
 /// that `CLEAR` takes away this one.
 const AT_END: &str = "\x1b[?7h\x1b[999C ";
@@ -19,34 +23,62 @@ const AT_END: &str = "\x1b[?7h\x1b[999C ";
 /// The line of a command that is to be run beside others, written over the one that stands there.
 pub(crate) fn over(
     alloc: Global,
-    number: u64,
-    others: u64,
+    begun: Count,
     dir: &Path,
     text: &Text,
 ) -> Result<String, AllocError> {
-    let count = count(alloc, number, others)?;
+    let count = counted(alloc, begun.number, begun.planned, begun.others)?;
     let line = started(alloc, count.as_str(), dir, text)?;
     format!(in alloc; "{CLEAR}{CUT}{line}{AT_END}")
 }
 
 /// The line of a command that is to be run, for itself.
-pub(crate) fn own(alloc: Global, number: u64, dir: &Path, text: &Text) -> Result<String, AllocError>
-    ensures { IfOk result
-        (λ line. string_bytes line ≡ specs.own_line number dir.now text.now) }
+pub(crate) fn own(
+    alloc: Global,
+    begun: Count,
+    dir: &Path,
+    text: &Text,
+) -> Result<String, AllocError>
+    ensures { IfOk result (λ line. string_bytes line
+        ≡ specs.own_line begun.number begun.planned dir.now text.now) }
 {
-    let count = count(alloc, number, 0)?;
+    let count = counted(alloc, begun.number, begun.planned, 0)?;
     let line = started(alloc, count.as_str(), dir, text)?;
     format!(in alloc; "{line}\n")
 }
 
-/// The number of a command, and how many run beside it, if any do.
-fn count(alloc: Global, number: u64, others: u64) -> Result<String, AllocError>
-    ensures { IfOk result (λ count. string_bytes count ≡ specs.count number others) }
+/// The same, cut by the terminal.
+pub(crate) fn own_cut(
+    alloc: Global,
+    begun: Count,
+    dir: &Path,
+    text: &Text,
+) -> Result<String, AllocError> {
+    let count = numbered(alloc, begun.number, begun.planned)?;
+    let line = started(alloc, count.as_str(), dir, text)?;
+    format!(in alloc; "{CUT}{line}{END}")
+}
+
+/// The number of a command, how many are planned, if that is known, and how many run beside it, if any do.
+fn counted(alloc: Global, number: u64, planned: u64, others: u64) -> Result<String, AllocError>
+    ensures { IfOk result (λ count. string_bytes count ≡ specs.count number planned others) }
 {
+    let front = numbered(alloc, number, planned)?;
     if others == 0 {
+        Ok(front)
+    } else {
+        format!(in alloc; "{front}+{others}")
+    }
+}
+
+/// The number of a command, and how many are planned, if that is known.
+fn numbered(alloc: Global, number: u64, planned: u64) -> Result<String, AllocError>
+    ensures { IfOk result (λ front. string_bytes front ≡ specs.numbered number planned) }
+{
+    if planned == 0 {
         format!(in alloc; "{number}")
     } else {
-        format!(in alloc; "{number}+{others}")
+        format!(in alloc; "{number}/{planned}")
     }
 }
 
