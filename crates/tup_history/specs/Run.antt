@@ -19,6 +19,7 @@ use Rattle.tup_promise.specs.States.{States}
 use Rattle.tup_promise.specs.Unopened.{IsReadable}
 use Rattle.tup_promise.specs.Users.{HasUsersFile, IsHeldUp}
 use Rattle.tup_compare.specs.Compared.{HasCompared}
+use Rattle.tup_update.specs.Full.{HasFullCause}
 use Rattle.tup_top.specs.Order.{Wanted, BringsUp, IsUpdate, goes_on, used}
 use Rattle.tup_top.specs.Promise.{FindsOut, ForUpdate, ForInit, ForTodo, ForVerify, Lasts, NothingDone, OnceDone, OpensStore, QuietStep, Counts, HasPlainCause, Initializes, Compares}
 use Rattle.tup_top.specs.declared.status.Status.{Status}
@@ -53,13 +54,14 @@ pub record Leaves (wanted : Wanted) (old new : MemSite) (status : Status) : Type
   pub found_out : ForTodo wanted status (FindsOut ((next : Next) × IsKept next old) (world_in old) (world_in new))
 
 -- What an update by a crew of so many leaves of a kept project, whose commands mean this: exactly the files of a clean build where it
--- is done, and a crash leaves all as it is then. Whatever it answers only what is needed was run, a blame is true, each owned path is
--- in the state that it was in, or in one of this update, a file of the user's at a path that no rule makes holds it up, the project is
--- kept, and so is each world that a crash since its beginning may leave.
+-- is done, and a crash leaves all as it is then. Whatever it answers only what is needed was run, a blame is true, a store that is said
+-- to be full is, each owned path is in the state that it was in, or in one of this update, a file of the user's at a path that no rule
+-- makes holds it up, the project is kept, and so is each world that a crash since its beginning may leave.
 pub record Updates (next : Next) (many : ℕ) (wanted : Wanted) (old new : MemSite) (status : Status) (ran : List RuleName) : Type 0 where
   pub files : ForUpdate wanted status (ExactlyTheFiles next (world_in old) (world_in new))
   pub needed : ForUpdate wanted status (OnlyWhatIsNeeded next (goes_on wanted) (used wanted many) (world_in old) (world_in new) ran)
   pub blamed : ForUpdate wanted status (IsToBlame next (world_in old) (world_in new) ran)
+  pub full : ForUpdate wanted status (HasFullCause memory.ghosts old new ran)
   pub settled : ForUpdate wanted status (OnceDone (IsDurable (left_since new (moment_of new)) (world_in new)))
   pub states : BringsUp wanted → States next (world_in old) (world_in new)
   pub users : HasUsersFile (world_in old) → ForUpdate wanted status (IsHeldUp memory.ghosts old new ran)

@@ -10,6 +10,7 @@ ghost use Rattle.tup_history.specs.Run.{Keeps, Leaves, Updates, Lets, left_then,
 use std::alloc::Global;
 use std::sync::Wait;
 use std::thread::Threads;
+use tup_progress::Started;
 use tup_runner::Runner;
 use tup_site::MemSite;
 use tup_tell::{Keep, Sink};
@@ -37,7 +38,16 @@ pub(crate) fn run<W: Threads + Wait + Sync, R: Runner + Send, K: Sink>(
     ensures crew { IsCrew result.crew.items }
 {
     let mut tellers: Vec<Keep> = Vec::new(alloc);
-    tup(rt, alloc, words, site, crew, &mut tellers, out)
+    tup(
+        rt,
+        alloc,
+        words,
+        site,
+        crew,
+        &Started::new(),
+        &mut tellers,
+        out,
+    )
 }
 
 /// Lets only so many more calls of the site pass, where that is said.

@@ -244,7 +244,7 @@ as_alone before now Memory cause = cause
 as_alone before now (Differs path) cause = cause
 
 -- no count rises unseen where reporters were told before
-told_counted : (site_before site_now run_before run_now sink_before sink_now : ℕ) (log : Log) (stopped : Option Stop) (status answer : Status) → status ≡ status_of log stopped → EndsTold sink_before sink_now status answer →
+pub told_counted : (site_before site_now run_before run_now sink_before sink_now : ℕ) (log : Log) (stopped : Option Stop) (status answer : Status) → status ≡ status_of log stopped → EndsTold sink_before sink_now status answer →
     (IsDone answer → sink_now ≡ sink_before) → StopHasCountedCause site_before site_now stopped → HasRunCause run_before run_now stopped →
     HasAloneCause (of_one site_before run_before sink_before) (of_one site_now run_now sink_now) answer
 told_counted site_before site_now run_before run_now sink_before sink_now log stopped status answer is (inl ends) sink cause run =

@@ -212,7 +212,7 @@ module _ (site_before site_now sink_before sink_now : ℕ) (runners : List ℕ) 
   one_failed (inr (inl site)) = inr (inl (site.0, refl))
   one_failed (inr (inr runner)) = absurd (never_rose runner.1)
 
-  pub idle_crew : (status : Status) → HasCountedCause (of_one site_before 0 sink_before) (of_one site_now 0 sink_now) status → HasCountedCause (beside runners site_before sink_before) (beside runners site_now sink_now) status
+  idle_crew : (status : Status) → HasCountedCause (of_one site_before 0 sink_before) (of_one site_now 0 sink_now) status → HasCountedCause (beside runners site_before sink_before) (beside runners site_now sink_now) status
   idle_crew (Done read ran removed) cause = (still cause.0, cause.1)
   idle_crew (Command rule status) cause = still cause
   idle_crew (IllegalRead rule text) cause = still cause
@@ -235,3 +235,28 @@ module _ (site_before site_now sink_before sink_now : ℕ) (runners : List ℕ) 
   idle_crew (Limit what number) cause = (still cause.0, cause.1)
   idle_crew Memory cause = one_failed cause
   idle_crew (Differs path) cause = cause
+
+  -- so it is where a reporter may have failed
+  pub idle_alone : (status : Status) → HasAloneCause (of_one site_before 0 sink_before) (of_one site_now 0 sink_now) status → HasAloneCause (beside runners site_before sink_before) (beside runners site_now sink_now) status
+  idle_alone (Done read ran removed) cause = idle_crew (Done read ran removed) cause
+  idle_alone (Command rule status) cause = idle_crew (Command rule status) cause
+  idle_alone (IllegalRead rule text) cause = idle_crew (IllegalRead rule text) cause
+  idle_alone (IllegalWrite rule text) cause = idle_crew (IllegalWrite rule text) cause
+  idle_alone (Unwritten rule path) cause = idle_crew (Unwritten rule path) cause
+  idle_alone (TooManyReads rule) cause = idle_crew (TooManyReads rule) cause
+  idle_alone (Usage place) cause = idle_crew (Usage place) cause
+  idle_alone NotInit cause = idle_crew NotInit cause
+  idle_alone AlreadyInit cause = idle_crew AlreadyInit cause
+  idle_alone (BadStore offset) cause = idle_crew (BadStore offset) cause
+  idle_alone (Parse fault) cause = idle_crew (Parse fault) cause
+  idle_alone (CircularDirs cycle) cause = idle_crew (CircularDirs cycle) cause
+  idle_alone (CircularCommands cycle) cause = idle_crew (CircularCommands cycle) cause
+  idle_alone (NoSuchGroup group) cause = idle_crew (NoSuchGroup group) cause
+  idle_alone (UserFile path) cause = idle_crew (UserFile path) cause
+  idle_alone SiteFault cause = idle_crew SiteFault cause
+  idle_alone RunFault cause = idle_crew RunFault cause
+  idle_alone SinkFault cause = idle_crew SinkFault cause
+  idle_alone TellFault cause = still cause
+  idle_alone (Limit what number) cause = idle_crew (Limit what number) cause
+  idle_alone Memory cause = idle_crew Memory cause
+  idle_alone (Differs path) cause = idle_crew (Differs path) cause

@@ -95,6 +95,8 @@ memory_prints jobs site runner kept says unsaid hears unheard (Ok Init) next w r
 memory_prints jobs site runner kept says unsaid hears unheard (Ok Todo) next w ran count held none = record {
   todo = Err (Outside NoMemory);
   lists = λ _. tt;
+  status = Memory;
+  heard = unheard;
   ends = inl refl;
   prints = prints_nothing Memory (last_line Memory) count count held;
 }
@@ -132,5 +134,6 @@ memory_found_out wanted kept w flagged =
       opens = opens_so w w [] told.log refl (Some (Outside NoMemory)) (told.unopened refl);
       stops = tt;
       blamed = λ _. tt;
+      full = λ _. tt;
       flagged = flagged;
     })

@@ -1,5 +1,5 @@
 -- How an update ends whose reporters were told before its lines were printed.
-use Rattle.std.proofs.Common.{◌≡◌, ◌==◌, inl, inr, ℕ, Bool, IsTrue, true, false, List, [], Option, None, Some, refl, sym, subst, ◌∙◌}
+use Rattle.std.proofs.Common.{◌≡◌, ◌==◌, inl, inr, ℕ, Bool, Err, IsTrue, true, false, List, [], ◌∷◌, append-nil, Option, None, Some, refl, sym, subst, ◌∙◌}
 use Rattle.std.proofs.lemmas.Bool.{false≢true}
 use Rattle.std.specs.Prelude.{length}
 use Rattle.tup_site.specs.World.{World}
@@ -15,8 +15,8 @@ use Rattle.tup_promise.specs.declared.log.Log.{Log}
 use Rattle.tup_promise.specs.declared.stop.Stop.{Stop}
 use Rattle.tup_promise.specs.declared.stop.Stop.TheVariants.{NoStore, BadStore as StoreDamaged, Sources, UserFile as IsUsers, Bad, Run, Full, Outside}
 use Rattle.tup_top.specs.Printed.{Ends, EndsTold, PrintsUpdate, hears_none, demo_world}
-use Rattle.tup_top.specs.Status.{after_telling, status_of, status_of_sources}
-use Rattle.tup_top.specs.Telling.{Hears, TellsUpdate, events_of}
+use Rattle.tup_top.specs.Status.{after_telling, log_of_todo, status_of, status_of_sources}
+use Rattle.tup_top.specs.Telling.{Hears, TellsTodo, TellsUpdate, events_of}
 use Rattle.tup_top.specs.declared.status.Status.{Status}
 use Rattle.tup_top.specs.declared.status.Status.TheVariants.{Done, Command, IllegalRead, IllegalWrite, Unwritten, TooManyReads, Usage, NotInit, AlreadyInit, BadStore, Parse, CircularDirs, CircularCommands, NoSuchGroup, UserFile, SiteFault, RunFault, SinkFault, TellFault, Limit, Memory, Differs}
 use Rattle.tup_top.proofs.Causes.{nothing_logged, says_less, told_nothing}
@@ -66,7 +66,7 @@ module _ (before now : ℕ) where
   ends_told false none_failed came answer ends = inl (inr (inl (memory_ends answer ends)))
 
   -- no reporter is blamed where none failed
-  unblamed : (came answer : Status) → (came ≡ TellFault → ⊥) → Ends before now came answer → answer ≡ TellFault → ⊥
+  pub unblamed : (came answer : Status) → (came ≡ TellFault → ⊥) → Ends before now came answer → answer ≡ TellFault → ⊥
   unblamed came answer other (inl e) is = other (sym e ∙ is)
   unblamed came answer other (inr (inl e)) is = absurd (cc (e, is))
   unblamed came answer other (inr (inr (e, done, rose))) is = absurd (cc (e, is))
@@ -121,6 +121,20 @@ module _ {T : Type 0} (told : T → List Event) (faults : T → ℕ) where
     status_is = refl;
   }
 
+  -- those that are told nothing are as they were
+  told_no_event : (list failed : List T) → failed ≡ [] → AreTold told faults [] list list failed
+  told_no_event [] failed none = (refl, none)
+  told_no_event (one ∷ more) failed none = inl (one, more, refl, (sym (append-nil (told one)), refl), told_no_event more failed none)
+
+  -- so they are where finding out what an update would do was stopped
+  pub hears_no_folder : (old failed : List T) → failed ≡ [] → (stop : Stop) (came : Status) → Hears told faults old old failed (log_of_todo (Err stop)) came came
+  hears_no_folder old failed none stop came = record {
+    all = true;
+    told_all = λ _. told_no_event old failed none;
+    cut_off = λ is. absurd (false≢true (sym is));
+    status_is = subst (λ (l : List T). came ≡ after_telling true (length l == 0) came) (sym none) refl;
+  }
+
   -- where there is no reporter, an update ends as it came, but for want of memory
   pub heard_none : (old kept failed : List T) → old ≡ [] → (log : Log) (came status : Status) → Hears told faults old kept failed log came status → hears_none log came status
   heard_none old kept failed none log came status hears = by hears.all hears.told_all hears.status_is
@@ -155,3 +169,13 @@ tells_nothing jobs site keep_going hears heard w ran none before now =
       heard = heard;
       ends = inl refl;
     }
+
+-- and finding out what it would do, for which there was none
+pub tells_no_folder : (kept : Type 0) (hears : Log → Status → Status → Type 0) → hears nothing_logged Memory Memory → (w : World) (before now : ℕ) → TellsTodo kept hears w w before now Memory
+tells_no_folder kept hears heard w before now = record {
+  todo = Err (Outside NoMemory);
+  lists = λ _. tt;
+  status = Memory;
+  heard = heard;
+  ends = inl refl;
+}

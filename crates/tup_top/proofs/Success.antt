@@ -2,6 +2,7 @@
 use Rattle.std.proofs.Common.{◌≡◌, inl, inr, ℕ, ◌-◌, ◌^◌, ◌<◌, List, Some, sym, ap, ◌∙◌, arith}
 use Rattle.std.specs.List.{slice_get}
 use Rattle.tup_path.specs.Count.{Rose}
+use Rattle.tup_site.specs.Cause.{most_bytes}
 use Rattle.tup_site.specs.World.{World}
 use Rattle.tup_runner.specs.Next.{Next}
 use Rattle.tup_promise.specs.declared.fault.SourcesFault.TheVariants as sources
@@ -26,7 +27,7 @@ no_runner_rose before now fine one =
     let same : Some one.is ≡ Some one.was = sym one.stands ∙ there in
     not_rose one.was one.is (cc same) (fine.runners_count one.at one.is one.stands) one.rose
 
-no_large : (w : World) (number : ℕ) → CanBeCompared w → HasFileOf number w.tree → 16777216 < number → ⊥
+no_large : (w : World) (number : ℕ) → CanBeCompared w → HasFileOf number w.tree → most_bytes < number → ⊥
 no_large w number can file large =
     let small = can.small file.0 file.1.content file.1.found in
     let bytes = file.1.bytes in

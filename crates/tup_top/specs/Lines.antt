@@ -15,7 +15,6 @@ use Rattle.tup_promise.specs.declared.log.Log.{Log}
 use Rattle.tup_promise.specs.declared.stop.Stop.{Stop}
 use Rattle.tup_todo.specs.declared.listing.DueRule.{DueRule}
 use Rattle.tup_todo.specs.declared.todo.Todo.{Todo}
-use Rattle.tup_top.specs.Status.{status_of_todo}
 use Rattle.tup_top.specs.declared.status.Status.{Status}
 use Rattle.tup_top.specs.declared.status.Status.TheVariants.{Done, Command, IllegalRead, IllegalWrite, Unwritten, TooManyReads, Usage, NotInit, AlreadyInit, BadStore, Parse, CircularDirs, CircularCommands, NoSuchGroup, UserFile, SiteFault, RunFault, SinkFault, TellFault, Limit, Memory, Differs}
 use Rattle.tup_top.specs.declared.status.What.{What}
@@ -160,7 +159,7 @@ lines log chains status =
 abbrev pub listed_lines : Todo → List ℕ
 listed_lines todo = flat_map read_line todo.read ++ (flat_map removes_line todo.removes ++ flat_map runs_line todo.runs)
 
--- all lines of what an update would do
-abbrev pub todo_lines : Result Todo Stop → List ℕ
-todo_lines (Ok todo) = listed_lines todo ++ last_line (status_of_todo (Ok todo))
-todo_lines (Err stop) = last_line (status_of_todo (Err stop))
+-- all lines of what an update would do, the last one for this status
+abbrev pub todo_lines : Result Todo Stop → Status → List ℕ
+todo_lines (Ok todo) status = listed_lines todo ++ last_line status
+todo_lines (Err stop) status = last_line status

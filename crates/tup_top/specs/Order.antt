@@ -34,6 +34,15 @@ BringsUp (Ok Verify) = ⊥
 BringsUp (Ok Demo) = ⊥
 BringsUp (Err place) = ⊥
 
+-- the words ask for what an update would do
+abbrev pub IsTodo : Wanted → Type 0
+IsTodo (Ok (Upd program keep_going quiet verbose explain jobs log)) = ⊥
+IsTodo (Ok Init) = ⊥
+IsTodo (Ok Todo) = ⊤
+IsTodo (Ok Verify) = ⊥
+IsTodo (Ok Demo) = ⊥
+IsTodo (Err place) = ⊥
+
 -- the words ask for a comparison
 abbrev pub IsVerify : Wanted → Type 0
 IsVerify (Ok (Upd program keep_going quiet verbose explain jobs log)) = ⊥

@@ -22,7 +22,7 @@ use Rattle.tup_update.specs.Because.{AreExplained, CountsChains, OfEnded}
 use Rattle.tup_todo.specs.declared.todo.Todo.{Todo as TodoLists}
 use Rattle.tup_top.specs.Lines.{lines, last_line, begun_line, compared_line, todo_lines}
 use Rattle.tup_top.specs.Order.{Wanted}
-use Rattle.tup_top.specs.Status.{status_of, status_of_begun, status_of_compared, status_of_todo}
+use Rattle.tup_top.specs.Status.{log_of_todo, status_of, status_of_begun, status_of_compared, status_of_todo}
 use Rattle.tup_top.specs.declared.order.Order.TheVariants.{Init, Upd, Todo, Verify, Demo}
 use Rattle.tup_top.specs.declared.status.Status.{Status}
 use Rattle.tup_top.specs.declared.status.Status.TheVariants.{Done, Usage, SinkFault, TellFault, Memory}
@@ -88,11 +88,14 @@ pub record PrintsComparison (site runner : Bool) (next : Next) (world : World) (
   pub prints : Prints (status_of_compared compared) (compared_line (status_of_compared compared)) before now old new answer
 
 -- The lines of what an update would do. Over a kept site they list the rules that are due and the files that no rule makes any more.
-pub record PrintsTodo (kept : Type 0) (world left : World) (before now : ℕ) (old new : List ℕ) (answer : Status) : Type 0 where
+-- They end with a status of which this is so by the folders that were read and by what was found out: reporters may have failed.
+pub record PrintsTodo (kept : Type 0) (hears : Log → Status → Status → Type 0) (world left : World) (before now : ℕ) (old new : List ℕ) (answer : Status) : Type 0 where
   pub todo : Result TodoLists Stop
   pub lists : kept → IfOk todo (ListsWhatIsDue world left)
-  pub ends : Ends before now (status_of_todo todo) answer
-  pub prints : Prints (status_of_todo todo) (todo_lines todo) before now old new answer
+  pub status : Status
+  pub heard : hears (log_of_todo todo) (status_of_todo todo) status
+  pub ends : Ends before now status answer
+  pub prints : Prints status (todo_lines todo status) before now old new answer
 
 -- the line of a beginning
 pub record PrintsBegun (before now : ℕ) (old new : List ℕ) (answer : Status) : Type 0 where
@@ -113,7 +116,7 @@ PrintsDemo before now old new answer = (ran : List RuleName) × (left : World) �
 abbrev pub Printed : ℕ → Bool → Bool → Type 0 → (Bool → Log → List (Option (List ℕ)) → Type 0) → (Log → Status → Status → Type 0) → Wanted → Next → World → World → List RuleName → ℕ → ℕ → List ℕ → List ℕ → Status → Type 0
 Printed jobs site runner kept says hears (Ok (Upd program keep_going quiet verbose explain number log)) next world left ran before now old new answer = PrintsUpdate jobs site keep_going (says explain) hears world left ran before now old new answer
 Printed jobs site runner kept says hears (Ok Init) next world left ran before now old new answer = PrintsBegun before now old new answer
-Printed jobs site runner kept says hears (Ok Todo) next world left ran before now old new answer = PrintsTodo kept world left before now old new answer
+Printed jobs site runner kept says hears (Ok Todo) next world left ran before now old new answer = PrintsTodo kept hears world left before now old new answer
 Printed jobs site runner kept says hears (Ok Verify) next world left ran before now old new answer = PrintsComparison site runner next world before now old new answer
 Printed jobs site runner kept says hears (Ok Demo) next world left ran before now old new answer = PrintsDemo before now old new answer
 Printed jobs site runner kept says hears (Err place) next world left ran before now old new answer = Prints (Usage place) (last_line (Usage place)) before now old new answer

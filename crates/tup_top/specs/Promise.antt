@@ -4,6 +4,7 @@ use Rattle.std.specs.Prelude.{◌≡◌, ◌⊎◌, ◌<◌, ◌≤◌, ⊤, ℕ
 use Rattle.std.specs.FinMap as finite
 use Rattle.tup_path.specs.Count.{Rose}
 use Rattle.tup_path.specs.Name.{Names, Content}
+use Rattle.tup_site.specs.Cause.{most_bytes}
 use Rattle.tup_site.specs.Crash.{PinsStore}
 use Rattle.tup_site.specs.World.{World, TreeStays}
 use Rattle.tup_site.specs.declared.fault.SiteFailed.TheVariants.{Memory as NoMemory}
@@ -18,6 +19,7 @@ use Rattle.tup_promise.specs.declared.fault.SourcesFault.{SourcesFault}
 use Rattle.tup_phases.specs.Kept.{BlamesSources}
 use Rattle.tup_phases.specs.Logged.{IsLogged}
 use Rattle.tup_phases.specs.Prepared.{StopsSurvey}
+use Rattle.tup_phases.specs.Room.{FillsStore}
 use Rattle.tup_phases.specs.Spared.{LeavesTree}
 use Rattle.tup_promise.specs.Cause.{OneRose}
 use Rattle.tup_promise.specs.Needed.{FlagsWhatWasDue}
@@ -95,12 +97,13 @@ OpensStore old new ran (Some (Outside NoMemory)) = (stopped : Option Stop) × (l
 OpensStore old new ran stopped = (log : Log) × (log.ran ≡ ran) × Unopened old new log stopped
 
 -- What came of finding out what an update would do, which was stopped so, or by nothing: how it went on from the store, and that
--- nothing stops it that stops only a removal or a run. Over a kept site a blame of the sources is true, and no more is to be run
--- then than was due.
+-- nothing stops it that stops only a removal or a run. Over a kept site a blame of the sources is true, a store that is
+-- said to be full is, and no more is to be run then than was due.
 pub record FindsOut (kept : Type 0) (old new : World) (stopped : Option Stop) : Type 0 where
   pub opens : OpensStore old new [] stopped
   pub stops : IfSome stopped StopsSurvey
   pub blamed : kept → IfSome stopped (BlamesSources old)
+  pub full : kept → IfSome stopped (FillsStore new)
   pub flagged : kept → FlagsWhatWasDue old new
 
 -- a promise of an update that nothing stopped
@@ -163,7 +166,8 @@ HasCountedCause before now Memory = OneFailedAtMost before now
 HasCountedCause before now other = AreSteady before now
 
 -- What the counts show whatever the number of runners. Once something has stopped an update, a command that still runs may find
--- that the site or its runner fails: so a count that is blamed rose, and none rose where all was done, or where no rule was begun.
+-- that the site or its runner fails: so a count that is blamed rose, and none rose where all was done, where the store can't be read,
+-- where the Tupfiles come to no rules, or where a file of the user's stands in the way. Of a limit that is left open.
 abbrev pub HasSharedCause : Counts → Counts → Status → Type 0
 HasSharedCause before now (Done read ran removed) = AreSteady before now × (now.sink ≡ before.sink)
 HasSharedCause before now SinkFault = AreSteady before now × Rose before.sink now.sink
@@ -181,7 +185,8 @@ HasSharedCause before now (Differs path) = ⊥
 HasSharedCause before now Memory = ⊤
 HasSharedCause before now other = AreSteady before now
 
--- the causes of an update by one runner, of which a reporter may have failed; nothing else has then
+-- the causes of an update by one runner, or of finding out what it would do, of which a reporter may have failed; nothing else has
+-- then
 abbrev pub HasAloneCause : Counts → Counts → Status → Type 0
 HasAloneCause before now TellFault = AreSteady before now
 HasAloneCause before now other = HasCountedCause before now other
@@ -231,7 +236,7 @@ IsRefusal wrong other = ⊥
 abbrev pub HasPlainCause : Wanted → Counts → Counts → Status → Type 0
 HasPlainCause (Ok (Upd program keep_going quiet verbose explain jobs log)) before now status = HasCrewCause (used_of jobs (length before.runners)) before now status
 HasPlainCause (Ok Init) before now status = (now.runners ≡ before.runners) × HasBegunCause before.site now.site before.sink now.sink status
-HasPlainCause (Ok Todo) before now status = HasCountedCause before now status
+HasPlainCause (Ok Todo) before now status = HasAloneCause before now status
 HasPlainCause (Ok Verify) before now status = HasComparedCause before now status
 HasPlainCause (Ok Demo) before now status = AreSteady before now × HasDemoCause before.sink now.sink status
 HasPlainCause (Err place) before now status = AreSteady before now × IsRefusal place status
@@ -260,7 +265,7 @@ pub record CanBeCompared (w : World) : Type 0 where
   pub held : Holding
   pub store_reads : Shows w held
   pub sources_read : (fault : SourcesFault) → IsRefused w fault → ⊥
-  pub small : (path : Names) (content : Content) → finite.get w.tree path ≡ Some content → length content ≤ 16777216
+  pub small : (path : Names) (content : Content) → finite.get w.tree path ≡ Some content → length content ≤ most_bytes
 
 -- an answer that is free, or says how the files compare with a clean build, or which rule of it isn't Good
 abbrev pub IsComparisonOrMemory : Status → Type 0

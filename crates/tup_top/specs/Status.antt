@@ -1,6 +1,7 @@
 -- How an order ended: the exit numbers (own), what stops an update as a status, and what a status says of an update.
-use Rattle.std.specs.Prelude.{ℕ, Bool, true, false, ◌-◌, ◌^◌, ◌<◌, length, min, Option, None, Some, Result, Ok, Err}
+use Rattle.std.specs.Prelude.{ℕ, Bool, true, false, ◌-◌, ◌^◌, ◌<◌, [], length, min, Option, None, Some, Result, Ok, Err}
 use Rattle.tup_stamp.specs.declared.Stamp.{Stamp}
+use Rattle.tup_site.specs.Cause.{most_bytes}
 use Rattle.tup_site.specs.declared.fault.SiteFailed.{SiteFailed}
 use Rattle.tup_site.specs.declared.fault.SiteFailed.TheVariants.{Fault, TooLarge, Memory as NoMemory}
 use Rattle.tup_rule.specs.declared.rule.RuleName.{RuleName}
@@ -55,7 +56,7 @@ capped count = min count (2 ^ 32 - 1)
 -- how many of these there may be
 abbrev pub most : What → ℕ
 most Files = 65536
-most FileSize = 16777216
+most FileSize = most_bytes
 most Commands = 65536
 most Links = 4194304
 most StoreSize = 268435456
@@ -105,6 +106,11 @@ status_of log (Some stop) = status_of_stop stop
 abbrev pub status_of_todo : Result Todo Stop → Status
 status_of_todo (Ok todo) = Done (capped (length todo.read)) 0 0
 status_of_todo (Err stop) = status_of_stop stop
+
+-- the log of finding out what an update would do: the folders that it read; where it was stopped, none
+abbrev pub log_of_todo : Result Todo Stop → Log
+log_of_todo (Ok todo) = record { read = todo.read; removed = []; ran = []; ended = [] }
+log_of_todo (Err stop) = record { read = []; removed = []; ran = []; ended = [] }
 
 -- the status of a comparison of the files with a clean build
 abbrev pub status_of_compared : Result Compared Stop → Status

@@ -1,5 +1,5 @@
--- What reporters are told of an update, and how an update ends then (own).
-use Rattle.std.specs.Prelude.{◌≡◌, ◌==◌, ℕ, Bool, false, List, [], ◌∷◌, ◌++◌, IsTrue, length, map, Option}
+-- What reporters are told of an update, or of what it would do, and how these end then (own).
+use Rattle.std.specs.Prelude.{◌≡◌, ◌==◌, ℕ, Bool, false, List, [], ◌∷◌, ◌++◌, IfOk, IsTrue, length, map, Option, Result}
 use Rattle.std.specs.List.{flat_map}
 use Rattle.tup_site.specs.World.{World}
 use Rattle.tup_rule.specs.declared.rule.RuleName.{RuleName}
@@ -11,9 +11,10 @@ use Rattle.tup_promise.specs.Unopened.{Unopened}
 use Rattle.tup_promise.specs.declared.log.EndedRule.{EndedRule}
 use Rattle.tup_promise.specs.declared.log.Log.{Log}
 use Rattle.tup_promise.specs.declared.stop.Stop.{Stop}
+use Rattle.tup_todo.specs.Lists.{ListsWhatIsDue}
+use Rattle.tup_todo.specs.declared.todo.Todo.{Todo}
 use Rattle.tup_top.specs.Printed.{Ends, Prints}
-use Rattle.tup_top.specs.Lines.{lines}
-use Rattle.tup_top.specs.Status.{status_of, after_telling}
+use Rattle.tup_top.specs.Status.{log_of_todo, status_of, status_of_todo, after_telling}
 use Rattle.tup_top.specs.declared.status.Status.{Status}
 
 -- what is told of a rule whose command came to a verdict
@@ -34,13 +35,13 @@ pub record Hears {T : Type 0} (told : T → List Event) (faults : T → ℕ) (ol
   pub cut_off : all ≡ false → AreCutOff told faults (events_of log) old kept failed
   pub status_is : status ≡ after_telling all (length failed == 0) came
 
--- What is told of an update with this log and these chains that came to a status: first the reporters, of whom this is so by how the
--- update ends then, and then the sink.
-pub record Reports (hears : Log → Status → Status → Type 0) (log : Log) (chains : List (Option (List ℕ))) (shows : Type 0) (came : Status) (before now : ℕ) (old new : List ℕ) (answer : Status) : Type 0 where
+-- What is told of an order with this log that came to a status: first the reporters, of whom this is so by how the order ends then,
+-- and then the sink, of these lines by how it ends.
+pub record Reports (hears : Log → Status → Status → Type 0) (log : Log) (lines : Status → List ℕ) (shows : Type 0) (came : Status) (before now : ℕ) (old new : List ℕ) (answer : Status) : Type 0 where
   pub status : Status
   pub heard : hears log came status
   pub ends : Ends before now status answer
-  pub prints : shows → Prints status (lines log chains status) before now old new answer
+  pub prints : shows → Prints status (lines status) before now old new answer
 
 -- What reporters were told of an update by so many runners that began these rules, was to go on after a bad verdict or not, and led from
 -- one world to another: it has a log, of which this is so by the status that it came to and the one that was printed.
@@ -52,4 +53,13 @@ pub record TellsUpdate (jobs : ℕ) (site keep_going : Bool) (hears : Log → St
   pub unopened : IsTrue site → Unopened world left log stopped
   pub status : Status
   pub heard : hears log (status_of log stopped) status
+  pub ends : Ends before now status answer
+
+-- What reporters were told of finding out what an update would do, which led from one world to another: the folders that were read.
+-- Over a kept site it found what is due.
+pub record TellsTodo (kept : Type 0) (hears : Log → Status → Status → Type 0) (world left : World) (before now : ℕ) (answer : Status) : Type 0 where
+  pub todo : Result Todo Stop
+  pub lists : kept → IfOk todo (ListsWhatIsDue world left)
+  pub status : Status
+  pub heard : hears (log_of_todo todo) (status_of_todo todo) status
   pub ends : Ends before now status answer

@@ -18,7 +18,8 @@ ghost use Rattle.tup_promise.specs.Unopened.{IsReadable};
 ghost use Rattle.tup_promise.specs.Users.{HasUsersFile, IsHeldUp};
 ghost use Rattle.tup_compare.specs.Compared.{HasCompared};
 ghost use Rattle.tup_compare.specs.Opened.{JustOpens};
-ghost use Rattle.tup_top.specs.Order.{BringsUp, IsUpdate, goes_on, order, used};
+ghost use Rattle.tup_update.specs.Full.{HasFullCause};
+ghost use Rattle.tup_top.specs.Order.{BringsUp, IsTodo, IsUpdate, goes_on, order, used};
 ghost use Rattle.tup_top.specs.Crew.{IsCrew, CrewCompares, NothingRun};
 ghost use Rattle.tup_top.specs.Lines.{last_line as line_of};
 ghost use Rattle.tup_top.specs.Printed.{Printed, Prints, SaysWhyOf};
@@ -26,7 +27,7 @@ ghost use Rattle.tup_top.specs.Promise.{FindsOut, ForUpdate, ForInit, ForTodo, F
 ghost use Rattle.tup_top.specs.Promise.{Lasts, Logs, NothingDone};
 ghost use Rattle.tup_top.specs.Promise.{OnceDone, OpensStore, QuietStep, Spares};
 ghost use Rattle.tup_top.specs.Promise.{HasPlainCause, IsRefusal, Initializes, Compares, counts};
-ghost use Rattle.tup_top.specs.Telling.{Hears, TellsUpdate};
+ghost use Rattle.tup_top.specs.Telling.{Hears, TellsTodo, TellsUpdate};
 ghost use Rattle.tup_top.specs.declared.status.Status.TheVariants.{TellFault, Usage};
 
 use crate::init::init;
@@ -34,7 +35,7 @@ use crate::order::{Order, OrderFault, Word, order_of};
 use crate::parting::used;
 use crate::print::tell;
 use crate::status::Status;
-use crate::telling::nobody;
+use crate::telling::{Reported, nobody};
 use crate::todo::todo;
 use crate::update::{Ended, demo, update_by};
 use crate::verify::verify;
@@ -43,6 +44,7 @@ use std::sync::Wait;
 use std::thread::Threads;
 use tup_partial::flags_are_of_rules;
 use tup_path::Items;
+use tup_progress::Started;
 use tup_rule::RuleName;
 use tup_runner::Runner;
 use tup_site::Site;
@@ -70,16 +72,18 @@ pub struct Ran<S, R, T> {
 /// would remove and run, and changes no file. `verify` has the first runner run those of a clean build
 /// beside them, and touches no file. `demo` shows an update of a small project in memory, and leaves
 /// site and crew alone. Other words are refused by the place of the first that can't stand there. A
-/// crew has 1 to 16 runners.
+/// crew has 1 to 16 runners. An update tells `started` how many commands it will run, before the first.
 ///
 /// An update tells the reporters what it did, each of them all events in their order, before it
-/// prints its lines. A reporter that fails is told no more and moves from `tellers` to `failed`.
+/// prints its lines; `todo` tells them which folders it read. A reporter that fails is told no more
+/// and moves from `tellers` to `failed`.
 pub fn tup<W: Threads + Wait + Sync, S: Site + Send, R: Runner + Send, T: Reporter, K: Sink>(
     rt: &W,
     alloc: Global,
     words: &[Word],
     site: S,
     crew: Vec<R>,
+    started: &Started,
     tellers: &mut Vec<T>,
     out: &mut K,
 ) -> Ran<S, R, T>
@@ -101,13 +105,14 @@ pub fn tup<W: Threads + Wait + Sync, S: Site + Send, R: Runner + Send, T: Report
     // An update that comes to its rules finds no more files than may be, and none too large.
     ensures limits { IsTrue S.tells
         → ForUpdate (order words.now) result.status (IsWithin (S.world site)) }
-    // Nothing is begun before the sources are read, and each rule that is begun comes to its end,
-    // but the last one of each runner where something else than a bad verdict stops it.
+    // Nothing is begun before the sources are read. Where nothing stops it, each rule that is begun
+    // comes to its end; those that don't were cut off, and with one runner they are the last.
     ensures logged { let jobs = used (order words.now) (length crew.items) in
         ForUpdate (order words.now) result.status
         (Logs jobs (goes_on (order words.now)) result.ran) }
     // Finding out what an update would do tells how it went on from the store, too. Over a kept site
-    // a blame of the sources is true, and no more is to be run then than was due.
+    // a blame of the sources is true, a store that is said to be full is, and no more is to be run
+    // then than was due.
     ensures found_out { IsTrue S.tells → let old = S.world site in
         let kept = IsKeptBySome S.Site.own site in
         ForTodo (order words.now) result.status (FindsOut kept old (S.world result.site)) }
@@ -133,6 +138,10 @@ pub fn tup<W: Threads + Wait + Sync, S: Site + Send, R: Runner + Send, T: Report
     ensures blamed { KeptHere S.Site.own R.Runner.own site
         → let old = S.world site in let new = S.world result.site in
         ForUpdate (order words.now) result.status (IsToBlame R.next old new result.ran) }
+    // Where it is told that the store is full, there is no room in it: as it is left where no command
+    // was run, and else as a crash since the beginning may leave it.
+    ensures full { KeptHere S.Site.own R.Runner.own site → ForUpdate (order words.now)
+        result.status (HasFullCause S.Site.own site result.site result.ran) }
     ensures settled { KeptHere S.Site.own R.Runner.own site
         → ForUpdate (order words.now) result.status (OnceDone (IsSettled S.Site.own result.site)) }
     ensures sources_and_crashes { KeptHere S.Site.own R.Runner.own site
@@ -198,8 +207,8 @@ pub fn tup<W: Threads + Wait + Sync, S: Site + Send, R: Runner + Send, T: Report
         let hears = Hears T.told T.faults tellers.old.items tellers.new.items result.failed.items in
         Printed jobs S.tells R.tells kept says hears (order words.now) R.next old new result.ran
         before now (K.held out.old) (K.held out.new) result.status }
-    // What reporters were told of an update, wherever its lines went. A reporter is blamed only
-    // where one failed, and without an update they are as they were.
+    // What reporters were told of an update, or of finding out what it would do, wherever its lines
+    // went. A reporter is blamed only where one failed, and any other order leaves them as they were.
     ensures tells { IsUpdate (order words.now)
         → let before = K.faults out.old in let now = K.faults out.new in
         let old = S.world site in let new = S.world result.site in
@@ -207,9 +216,15 @@ pub fn tup<W: Threads + Wait + Sync, S: Site + Send, R: Runner + Send, T: Report
         let hears = Hears T.told T.faults tellers.old.items tellers.new.items result.failed.items in
         TellsUpdate jobs S.tells (goes_on (order words.now)) hears old new result.ran before now
         result.status }
+    ensures tells_todo { IsTodo (order words.now)
+        → let before = K.faults out.old in let now = K.faults out.new in
+        let old = S.world site in let new = S.world result.site in
+        let kept = IsTrue S.tells × IsKeptBySome S.Site.own site in
+        let hears = Hears T.told T.faults tellers.old.items tellers.new.items result.failed.items in
+        TellsTodo kept hears old new before now result.status }
     ensures blamed_reporter { result.status ≡ TellFault → result.failed.items ≡ [] → ⊥ }
-    ensures untold { (IsUpdate (order words.now) → ⊥) → tellers.new ≡ tellers.old }
-    ensures none_failed { (IsUpdate (order words.now) → ⊥) → result.failed.items ≡ [] }
+    ensures untold { (BringsUp (order words.now) → ⊥) → tellers.new ≡ tellers.old }
+    ensures none_failed { (BringsUp (order words.now) → ⊥) → result.failed.items ≡ [] }
 {
     flags_are_of_rules();
     match order_of(words) {
@@ -232,7 +247,7 @@ pub fn tup<W: Threads + Wait + Sync, S: Site + Send, R: Runner + Send, T: Report
                 crew,
                 ran,
                 failed,
-            } = update_by(rt, alloc, site, crew, jobs, asked, tellers, out);
+            } = update_by(rt, alloc, site, crew, jobs, asked, started, tellers, out);
             Ran {
                 status,
                 site,
@@ -254,13 +269,13 @@ pub fn tup<W: Threads + Wait + Sync, S: Site + Send, R: Runner + Send, T: Report
         }
         Ok(Order::Todo) => {
             let mut site = site;
-            let status = todo(alloc, &mut site, out);
+            let Reported { status, failed } = todo(rt, alloc, &mut site, crew.len(), tellers, out);
             Ran {
                 status,
                 site,
                 crew,
                 ran: Items::new(alloc),
-                failed: nobody(alloc),
+                failed,
             }
         }
         Ok(Order::Verify) => {

@@ -1,4 +1,4 @@
-//! What reporters are told of an update, and how it ends then.
+//! What reporters are told of an update, or of what it would do, and how these end then.
 ghost use Rattle.std.specs.Prelude.{◌≡◌, ◌++◌, ◌∷◌, [], false, map, IfOk, IsTrue, OnOk};
 ghost use Rattle.std.specs.List.{flat_map};
 ghost use Rattle.tup_tell.specs.Parted.{AreCutOff, AreTold};
@@ -12,6 +12,14 @@ use tup_path::Path;
 use tup_promise::{EndedRule, Log};
 use tup_rule::RuleName;
 use tup_tell::{Event, Reporter, Telling, tell};
+
+/// How an order ends whose reporters were told.
+#[derive(Drop)]
+pub(crate) struct Reported<T> {
+    pub(crate) status: Status,
+    /// The reporters that failed, in their order.
+    pub(crate) failed: Vec<T>,
+}
 
 /// Tells each reporter what an update with this log did. Without reporters it takes no memory.
 pub(crate) fn hear<T: Reporter>(alloc: Global, log: &Log, tellers: &mut Vec<T>) -> Telling<T>
@@ -28,6 +36,32 @@ pub(crate) fn hear<T: Reporter>(alloc: Global, log: &Log, tellers: &mut Vec<T>) 
         };
     }
     match events(alloc, log) {
+        Ok(events) => tell(alloc, tellers, events.as_slice()),
+        Err(_) => Telling {
+            failed: nobody(alloc),
+            all: false,
+        },
+    }
+}
+
+/// Tells each reporter that these folders were read. Without reporters it takes no memory.
+pub(crate) fn hear_read<T: Reporter>(
+    alloc: Global,
+    folders: &[Path],
+    tellers: &mut Vec<T>,
+) -> Telling<T>
+    ensures all { IsTrue result.all → let events = map Read folders.now in
+        AreTold T.told T.faults events tellers.old.items tellers.new.items result.failed.items }
+    ensures cut_off { result.all ≡ false → let events = map Read folders.now in
+        AreCutOff T.told T.faults events tellers.old.items tellers.new.items result.failed.items }
+{
+    if tellers.is_empty() {
+        return Telling {
+            failed: nobody(alloc),
+            all: true,
+        };
+    }
+    match read_events(alloc, folders) {
         Ok(events) => tell(alloc, tellers, events.as_slice()),
         Err(_) => Telling {
             failed: nobody(alloc),
@@ -74,6 +108,15 @@ fn events(alloc: Global, log: &Log) -> Result<Vec<Event>, AllocError>
     add_read(&mut events, log.read.as_slice())?;
     add_removed(&mut events, log.removed.as_slice())?;
     add_ended(&mut events, log.ended.as_slice())?;
+    Ok(events)
+}
+
+/// The events of folders that were read.
+fn read_events(alloc: Global, folders: &[Path]) -> Result<Vec<Event>, AllocError>
+    ensures { IfOk result (λ events. events.items ≡ map Read folders.now) }
+{
+    let mut events = Vec::new(alloc);
+    add_read(&mut events, folders)?;
     Ok(events)
 }
 

@@ -16,6 +16,7 @@ ghost use Rattle.tup_promise.specs.States.{States};
 ghost use Rattle.tup_promise.specs.Ran.{CrewRuns};
 ghost use Rattle.tup_promise.specs.Unopened.{IsReadable};
 ghost use Rattle.tup_promise.specs.Users.{HasUsersFile, IsHeldUp};
+ghost use Rattle.tup_update.specs.Full.{HasFullCause};
 ghost use Rattle.tup_top.specs.Crew.{IsCrew};
 ghost use Rattle.tup_top.specs.Lines.{lines as lines_of};
 ghost use Rattle.tup_top.specs.Printed.{Ends, EndsTold, IsDone, Prints, PrintsDemo, PrintsUpdate, SaysWhyOf};
@@ -29,7 +30,7 @@ ghost use Rattle.tup_top.specs.declared.status.Status.TheVariants.{TellFault};
 use crate::parting::{part_off, rejoined};
 use crate::print::{lines, print, tell};
 use crate::status::{Status, status_of, status_of_begun};
-use crate::telling::{after_telling, hear, nobody};
+use crate::telling::{Reported, after_telling, hear, nobody};
 use std::alloc::Global;
 use std::sync::Wait;
 use std::thread::Threads;
@@ -39,6 +40,7 @@ use tup_ledger::begin;
 use tup_mini::Mini;
 use tup_partial::flags_are_of_rules;
 use tup_path::{Items, Text};
+use tup_progress::Started;
 use tup_promise::{Log, Stop};
 use tup_rule::RuleName;
 use tup_runner::Runner;
@@ -74,6 +76,7 @@ pub(crate) fn update_by<
     crew: Vec<R>,
     jobs: usize,
     asked: Asked,
+    started: &Started,
     tellers: &mut Vec<T>,
     out: &mut K,
 ) -> Ended<S, R, T>
@@ -95,6 +98,8 @@ pub(crate) fn update_by<
     ensures blamed { KeptHere S.Site.own R.Runner.own site
         → let old = S.world site in let new = S.world result.site in
         IfCame result.status (IsToBlame R.next old new result.ran) }
+    ensures full { KeptHere S.Site.own R.Runner.own site
+        → IfCame result.status (HasFullCause S.Site.own site result.site result.ran) }
     ensures settled { KeptHere S.Site.own R.Runner.own site
         → IfCame result.status (OnceDone (IsSettled S.Site.own result.site)) }
     ensures sources_and_crashes { KeptHere S.Site.own R.Runner.own site
@@ -147,7 +152,7 @@ pub(crate) fn update_by<
                 crew,
                 ran,
                 failed,
-            } = update(rt, alloc, site, crew, asked, tellers, out);
+            } = update(rt, alloc, site, crew, asked, started, tellers, out);
             Ended {
                 status,
                 site,
@@ -180,6 +185,7 @@ pub(crate) fn update<
     site: S,
     crew: Vec<R>,
     asked: Asked,
+    started: &Started,
     tellers: &mut Vec<T>,
     out: &mut K,
 ) -> Ended<S, R, T>
@@ -200,6 +206,8 @@ pub(crate) fn update<
     ensures blamed { KeptHere S.Site.own R.Runner.own site
         → let old = S.world site in let new = S.world result.site in
         IfCame result.status (IsToBlame R.next old new result.ran) }
+    ensures full { KeptHere S.Site.own R.Runner.own site
+        → IfCame result.status (HasFullCause S.Site.own site result.site result.ran) }
     ensures settled { KeptHere S.Site.own R.Runner.own site
         → IfCame result.status (OnceDone (IsSettled S.Site.own result.site)) }
     ensures sources_and_crashes { KeptHere S.Site.own R.Runner.own site
@@ -248,7 +256,7 @@ pub(crate) fn update<
         log,
         because,
         stopped,
-    } = update_site(rt, alloc, site, crew, asked);
+    } = update_site(rt, alloc, site, crew, asked, started);
     let Reported { status, failed } = tell_all(
         alloc,
         &log,
@@ -264,14 +272,6 @@ pub(crate) fn update<
         ran: log.ran,
         failed,
     }
-}
-
-/// How an update ends whose reporters were told.
-#[derive(Drop)]
-struct Reported<T> {
-    status: Status,
-    /// The reporters that failed, in their order.
-    failed: Vec<T>,
 }
 
 /// Tells the reporters what an update did by its log, prints its lines, and says how the order ends
@@ -290,7 +290,7 @@ fn tell_all<T: Reporter, K: Sink>(
     ensures reports { let came = told_by log.now stopped in
         let hears = Hears T.told T.faults tellers.old.items tellers.new.items result.failed.items in
         let before = K.faults out.old in let now = K.faults out.new in
-        Reports hears log.now because.now (IsTrue K.tells) came before now
+        Reports hears log.now (lines_of log.now because.now) (IsTrue K.tells) came before now
         (K.held out.old) (K.held out.new) result.status }
     ensures blamed_reporter { result.status ≡ TellFault → result.failed.items ≡ [] → ⊥ }
     ensures nobody { tellers.old.items ≡ [] → result.failed.items ≡ [] }
@@ -337,7 +337,17 @@ pub(crate) fn demo<W: Threads + Wait + Sync, K: Sink>(rt: &W, alloc: Global, out
     };
     let mut tellers: Vec<Keep> = nobody(alloc);
     match demo_parts(alloc) {
-        Ok((site, crew)) => update(rt, alloc, site, crew, plain, &mut tellers, out).status,
+        Ok((site, crew)) => update(
+            rt,
+            alloc,
+            site,
+            crew,
+            plain,
+            &Started::new(),
+            &mut tellers,
+            out,
+        )
+        .status,
         Err(fault) => tell(alloc, status_of_begun(Err(fault)), out),
     }
 }

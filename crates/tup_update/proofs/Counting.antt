@@ -139,6 +139,19 @@ module _ (rules : List Rule) (bad : ℕ → Option Verdict) where
     large_there (Left cause.Run) stopped drains stops n is = absurd (cc (stops, is))
     large_there (Left cause.Memory) stopped drains stops n is = absurd (cc (stops, is))
 
+  -- ---- where the store is said to be full, the board has stopped for that
+  not_full : (stopped : Option Stop) → IsEnd rules bad stopped → stopped ≡ Some stop.Full → ⊥
+  not_full stopped ends is = subst (IsEnd rules bad) is ends
+
+  pub stopped_full : (end : State) (drained : Drained) (stopped : Option Stop) → Drains end drained → StopsBy rules drained stopped bad → stopped ≡ Some stop.Full → end.stopped ≡ Some cause.Full
+  stopped_full end Done stopped drains stops is = absurd (not_full stopped stops is)
+  stopped_full end (Left cause.Bad) stopped drains stops is = absurd (not_full stopped stops is)
+  stopped_full end (Left cause.Site) stopped drains stops is = absurd (cc (stops, is))
+  stopped_full end (Left (cause.TooLarge n)) stopped drains stops is = absurd (cc (stops, is))
+  stopped_full end (Left cause.Full) stopped drains stops is = left_for end cause.Full (λ e. cc) drains
+  stopped_full end (Left cause.Run) stopped drains stops is = absurd (cc (stops, is))
+  stopped_full end (Left cause.Memory) stopped drains stops is = absurd (cc (stops, is))
+
   -- ---- what the runner ran
   -- a list without its last item
   but_last : {A : Type 0} (front : List A) (last : A) → take (length (front ++ last ∷ []) - 1) (front ++ last ∷ []) ≡ front

@@ -6,7 +6,6 @@ use Rattle.std.specs.Option.{option_map}
 use Rattle.std.proofs.lemmas.List.{length-map}
 use Rattle.std.proofs.lemmas.List.Elements.{All-cons, All-head, All-nil, All-tail}
 use Rattle.std.proofs.lemmas.Option.{get_or_from_slice_get, none-some, same_Some, slice_get-get_or, slice_get-map, slice_get_cases, slice_get_within}
-use Rattle.tup_path.specs.Count.{Rose}
 use Rattle.tup_path.specs.Name.{Names}
 use Rattle.tup_site.specs.declared.fault.SiteFailed.TheVariants as failed
 use Rattle.tup_rule.specs.declared.rule.Rule.{Rule}

@@ -1,5 +1,5 @@
 -- Which rules of a run come to a verdict, and with which verdicts: all that were claimed, but for those that are cut off.
-use Rattle.std.proofs.Common.{◌≡◌, ◌≢◌, ◌⊎◌, ◌<◌, ◌≤◌, ◌+◌, inl, inr, ℕ, Bool, true, false, List, [], ◌∷◌, ◌++◌, length, length-append, map, append-nil, append_assoc, Option, None, Some, refl, sym, ap, ap₂, subst, arith, ◌∙◌}
+use Rattle.std.proofs.Common.{◌≡◌, ◌≢◌, ◌⊎◌, ◌<◌, ◌≤◌, ◌+◌, inl, inr, ℕ, Bool, true, false, List, [], ◌∷◌, ◌++◌, length, length-append, append-nil, append_assoc, Option, None, Some, refl, sym, ap, subst, arith, ◌∙◌}
 use Rattle.std.specs.List.Sorted.{IsPermutation}
 use Rattle.std.specs.Prelude.{All, if◌then◌else◌, unwrap_or}
 use Rattle.std.specs.Option.{option_map}
@@ -22,10 +22,10 @@ use Rattle.tup_core.specs.declared.running.Running.{Running}
 use Rattle.tup_core.specs.Step.{State, changed, asked, refused, emptied, stopped_by, ended, after}
 use Rattle.tup_core.specs.Run.{IsRun, end_of, claims, seat_of}
 use Rattle.tup_core.proofs.Changed.{changed_cases, changed_here}
-use Rattle.tup_core.proofs.Orderly.{finished_is, seats_ended}
+use Rattle.tup_core.proofs.Orderly.{finished_is}
 use Rattle.tup_update.specs.Ended.{ends_at, ends_from, numbers}
 use Rattle.tup_update.proofs.Claimed.{Knows, claimed_after, knows_after, seats_finished}
-use Rattle.tup_update.proofs.Working.{at_work, others, running_of, same_running, swap_front, work_emptied, work_few, work_free, work_none, work_same}
+use Rattle.tup_update.proofs.Working.{at_work, others, running_of, same_running, swap_front, work_emptied, work_few, work_free, work_none}
 
 -- all happens at the first seat
 abbrev pub Own : CoreEvent → Type 0

@@ -31,10 +31,13 @@ use Rattle.tup_promise.specs.declared.stop.Stop.{Stop}
 use Rattle.tup_promise.specs.declared.stop.Stop.TheVariants as stop
 use Rattle.tup_phases.specs.Kept.{BlamesSources}
 use Rattle.tup_phases.specs.Prepared.{StopsBefore}
+use Rattle.tup_phases.specs.Room.{FillsStore}
+use Rattle.tup_ends.specs.Room.{LacksRoomToRun}
 use Rattle.tup_ends.proofs.Done.{none_due}
 use Rattle.tup_ends.proofs.Due.{none_runs}
 use Rattle.tup_ends.proofs.Stated.{kept_stated}
 use Rattle.tup_ends.proofs.Staying.{sources_kept}
+use Rattle.tup_update.specs.Full.{HasFullCause}
 use Rattle.tup_update.specs.Promised.{KeepsSources, Promises, PromisesOver}
 use Rattle.tup_update.specs.Run.{IsEnd, StopsAtBad, StopsBy, StopsRunning}
 use Rattle.tup_update.proofs.FirstBad.{HasBad}
@@ -85,6 +88,7 @@ unchanged {S} site runner keep_going jobs graph at new ran stopped due same none
       crashes = record { later = was.prepared.over.began; kept = was.prepared.over.kept; owned = was.owns };
       states = kept_stated runner.next (site.world old) (site.world at) was.stored;
       blamed = tt;
+      full = tt;
       kept = was.prepared.kept;
       settled = λ none. absurd (none-some (stop.Outside failed.Memory) (sym none));
     })))
@@ -105,6 +109,7 @@ nothing_due site runner keep_going jobs graph at ran due none unflagged files se
       crashes = record { later = was.prepared.over.began; kept = was.prepared.over.kept; owned = was.owns };
       states = kept_stated runner.next first (site.world at) was.stored;
       blamed = tt;
+      full = tt;
       kept = was.prepared.kept;
       settled = λ none. settled first since tells was.prepared;
     })
@@ -195,3 +200,28 @@ blames_sources next w now ran stop.Full before blames = tt
 blames_sources next w now ran (stop.Outside failed.Fault) before blames = tt
 blames_sources next w now ran (stop.Outside (failed.TooLarge n)) before blames = inl blames
 blames_sources next w now ran (stop.Outside failed.Memory) before blames = tt
+
+-- ---- why the store is said to be full
+module _ {S : Type 0} (site : Site S) (old new : S) (ran : List RuleName) where
+  -- once its rules were run
+  pub full_by : (stopped : Option Stop) → (stopped ≡ Some stop.Full → (w : World) × site.left_since new (site.moment old) w × LacksRoomToRun w ran) → HasFullCause site old new ran stopped
+  full_by None full = tt
+  full_by (Some stop.NoStore) full = tt
+  full_by (Some (stop.BadStore offset)) full = tt
+  full_by (Some (stop.Sources fault)) full = tt
+  full_by (Some (stop.UserFile path written found)) full = tt
+  full_by (Some (stop.Bad name verdict)) full = tt
+  full_by (Some stop.Run) full = tt
+  full_by (Some stop.Full) full = inr (full refl)
+  full_by (Some (stop.Outside why)) full = tt
+
+  -- before any was
+  pub full_before : (by : Stop) → ran ≡ [] → FillsStore (site.world new) by → HasFullCause site old new ran (Some by)
+  full_before stop.NoStore none fills = tt
+  full_before (stop.BadStore offset) none fills = tt
+  full_before (stop.Sources fault) none fills = tt
+  full_before (stop.UserFile path written found) none fills = tt
+  full_before (stop.Bad name verdict) none fills = tt
+  full_before stop.Run none fills = tt
+  full_before stop.Full none fills = inl (none, fills)
+  full_before (stop.Outside why) none fills = tt

@@ -1,5 +1,5 @@
 -- What an update says of its store, by what it was prepared to and how its rules ended.
-use Rattle.std.proofs.Common.{◌≡◌, ℕ, List, [], ◌++◌, Option, Some, None, inl, refl, sym, subst, append-nil}
+use Rattle.std.proofs.Common.{◌≡◌, ℕ, List, [], Option, Some, None, inl, refl, sym, subst, append-nil}
 use Rattle.std.specs.Option.{IfSome}
 use Rattle.tup_path.specs.Name.{Names as PathNames}
 use Rattle.tup_site.specs.World.{World}

@@ -1,4 +1,4 @@
--- Why the rules were run that an update began (own).
+-- Why the rules were run that an update brought to a verdict (own).
 use Rattle.std.specs.Prelude.{◌≡◌, ◌⊎◌, ℕ, Bool, true, false, List, [], ◌++◌, length, Option, None, Some}
 use Rattle.std.specs.List.{AllZip}
 use Rattle.tup_site.specs.declared.site.Site.{Ghosts as Site}

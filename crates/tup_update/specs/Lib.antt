@@ -1,5 +1,6 @@
 pub mod Names
 pub mod Run
+pub mod Full
 pub mod Promised
 pub mod Because
 pub mod Ended

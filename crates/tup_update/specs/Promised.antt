@@ -15,6 +15,7 @@ use Rattle.tup_promise.specs.Needed.{OnlyWhatIsNeeded}
 use Rattle.tup_promise.specs.Prepared.{IsPrepared}
 use Rattle.tup_promise.specs.States.{KeepsStates, States}
 use Rattle.tup_promise.specs.declared.stop.Stop.{Stop}
+use Rattle.tup_update.specs.Full.{HasFullCause}
 
 -- a graph over a site is up to date with the site that an update began with; since then no more came to be owned than the outputs
 -- of the rules, and owned paths kept their states
@@ -31,6 +32,7 @@ pub record Promises {S R : Type 0} (site : Site S) (runner : Runner R) (keep_goi
   pub crashes : SourcesAndCrashes site runner.next old new
   pub states : States runner.next (site.world old) (site.world new)
   pub blamed : IsToBlame runner.next (site.world old) (site.world new) ran stopped
+  pub full : HasFullCause site old new ran stopped
   -- the site is kept as it is, and a crash leaves it as it is where nothing stopped it
   pub kept : IsKeptNow site runner.next tupfiles (site.known new) new
   pub settled : stopped ≡ None → IsSettled site new

@@ -1,4 +1,4 @@
-//! Why the rules were run that were begun.
+//! Why the rules were run whose command came to a verdict.
 ghost use Rattle.std.specs.Prelude.{◌≡◌, ℕ, List, Option, Some, Contains, IfOk, IfSome, IsSome, is_some};
 ghost use Rattle.std.specs.BTreeMap.{get};
 ghost use Rattle.std.specs.Ordering.{nat_cmp};

@@ -1,4 +1,4 @@
-//! What is known of each rule of a plan, handed out for those that were begun.
+//! What is known of each rule of a plan, handed out for those that were begun or for those that ended.
 ghost use Rattle.std.specs.Prelude.{◌≡◌, ◌++◌, ◌≢◌, ◌∷◌, [], ℕ, None, Some, IsSome, IfOk, All, map, nat_eq};
 ghost use Rattle.std.specs.List.{IsDistinct};
 ghost use Rattle.tup_core.specs.Run.{claims};
@@ -11,8 +11,8 @@ use std::collections::BTreeMap;
 use tup_core::CoreEvent;
 use tup_path::Items;
 
-/// A value for each rule of a plan that isn't begun yet, by its number, and those of the rules that were, in their order. All
-/// are made before the first rule is run, so that there is one for each that was, even if no memory is left by then.
+/// A value for each rule of a plan that waits, by its number, and those that were handed out, in their order. All are made
+/// before the first rule is run, so that there is one for each that was, even if no memory is left by then.
 #[derive(Drop)]
 pub(crate) struct ByRule<V> {
     waiting: BTreeMap<u32, V>,

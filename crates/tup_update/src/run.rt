@@ -29,6 +29,7 @@ use crate::ended::stopped_by;
 use crate::names::names_of;
 use crate::update::{Asked, Updated};
 use std::alloc::{AllocError, Global};
+use std::mem;
 use std::sync::Wait;
 use std::thread::Threads;
 use tup_apart::plan_over;
@@ -37,11 +38,13 @@ use tup_core::{CoreEvent, Plan, claimed_once};
 use tup_ends::{
     bad_ran_all_it_could, bad_rules_are_bad, bad_stands_last, boards_are_kept,
     boards_leave_crashes, boards_leave_sources, boards_leave_states, done_is_finished,
-    done_is_settled, done_ran_all, prepared_is_finished, prepared_is_settled, ran_what_was_due,
+    done_is_settled, done_ran_all, full_is_true, prepared_is_finished, prepared_is_settled,
+    ran_what_was_due,
 };
 use tup_graph::Nodes;
 use tup_parallel::drain_by;
 use tup_path::{Items, Text};
+use tup_progress::Started;
 use tup_promise::{Log, Stop};
 use tup_rule::RuleName;
 use tup_runner::Runner;
@@ -56,6 +59,7 @@ pub(crate) fn run_flagged<W: Threads + Wait + Sync, S: Site + Send, R: Runner + 
     graph: Graph,
     crew: Vec<R>,
     asked: Asked,
+    started: &Started,
     log: Log,
 ) -> Updated<S, R>
     requires crew { (0 < length crew.items) × (length crew.items ≤ 16) }
@@ -82,6 +86,8 @@ pub(crate) fn run_flagged<W: Threads + Wait + Sync, S: Site + Send, R: Runner + 
     prepared_is_finished(&site);
     prepared_is_settled(&site);
     if none_flagged(graph.nodes()) {
+        // The program ends with its update: that the graph's memory is freed node by node helps nobody.
+        mem::forget(graph);
         return Updated {
             site,
             crew,
@@ -91,7 +97,10 @@ pub(crate) fn run_flagged<W: Threads + Wait + Sync, S: Site + Send, R: Runner + 
         };
     }
     match plan_over(alloc, &graph, asked.keep_going) {
-        Ok(Some(plan)) => run_plan(rt, alloc, site, graph, &plan, crew, asked.explain, log),
+        Ok(Some(plan)) => {
+            started.plan(plan.reach.len() as u64);
+            run_plan(rt, alloc, site, graph, &plan, crew, asked.explain, log)
+        }
         _ => without_memory(alloc, site, crew, log),
     }
 }
@@ -217,6 +226,7 @@ fn run_board<W: Threads + Wait + Sync, S: Site + Send, R: Runner + Send>(
     bad_ran_all_it_could(&parts.site, runner);
     bad_stands_last(&parts.site, runner);
     bad_rules_are_bad(&parts.site, runner);
+    full_is_true(&parts.site, runner);
     told(alloc, plan, parts, done.drained, known, done.crew, log)
 }
 

@@ -17,6 +17,7 @@ ghost use Rattle.tup_promise.specs.States.{States};
 ghost use Rattle.tup_promise.specs.Unopened.{IsReadable, Unopened};
 ghost use Rattle.tup_promise.specs.Users.{HasUsersFile, IsHeldUp};
 ghost use Rattle.tup_update.specs.Because.{AreExplained, CountsChains, OfEnded};
+ghost use Rattle.tup_update.specs.Full.{HasFullCause};
 
 use crate::run::run_flagged;
 use std::alloc::Global;
@@ -24,6 +25,7 @@ use std::sync::Wait;
 use std::thread::Threads;
 use tup_path::{Items, Text};
 use tup_phases::prepared;
+use tup_progress::Started;
 use tup_promise::{Log, Stop};
 use tup_runner::Runner;
 use tup_site::Site;
@@ -51,19 +53,22 @@ pub struct Updated<S: Site, R: Runner> {
 }
 
 /// Updates the files of a site: opens the store, reads the Tupfiles that have to be read, removes the files that no rule
-/// makes any more, and has a crew of runners run the rules that have to be run, as many at once as it has runners.
+/// makes any more, and has a crew of runners run the rules that have to be run, at most as many at once as it has runners.
 ///
-/// Where it is asked why, it says of each rule that was run the chain of a reason: from a changed file, a new rule or an
-/// unfinished one to that rule.
+/// Where it is asked why, it says of each rule whose command came to a verdict the chain of a reason: from a changed file, a new
+/// rule or an unfinished one to that rule.
 ///
 /// At a bad verdict it begins no more rules, or goes on with those that don't need that one. What was made by then stays
-/// made. What it leaves is the same in whatever order the runners get on.
+/// made. Where nothing stops it, what it leaves is the same in whatever order the runners get on.
+///
+/// How many rules it has to run is told to `started` before the first of them is run.
 pub fn update_site<W: Threads + Wait + Sync, S: Site + Send, R: Runner + Send>(
     rt: &W,
     alloc: Global,
     mut site: S,
     crew: Vec<R>,
     asked: Asked,
+    started: &Started,
 ) -> Updated<S, R>
     requires crew { (0 < length crew.items) × (length crew.items ≤ 16) }
     // Whatever the store is: where it is empty or can't be read nothing is done, and it is told exactly there.
@@ -87,6 +92,9 @@ pub fn update_site<W: Threads + Wait + Sync, S: Site + Send, R: Runner + Send>(
     ensures blamed { KeptHere S.Site.own R.Runner.own site
         → let old = S.world site in let new = S.world result.site in
         IsToBlame R.next old new result.log.ran result.stopped }
+    // And where it is told that the store is full, there is no room in it.
+    ensures full { KeptHere S.Site.own R.Runner.own site
+        → HasFullCause S.Site.own site result.site result.log.ran result.stopped }
     ensures kept { KeptHere S.Site.own R.Runner.own site
         → IsKeptNow S.Site.own R.next tupfiles (S.known result.site) result.site }
     ensures settled { KeptHere S.Site.own R.Runner.own site → result.stopped ≡ None
@@ -119,8 +127,8 @@ pub fn update_site<W: Threads + Wait + Sync, S: Site + Send, R: Runner + Send>(
 {
     none_waits_for_itself();
     let mut log = Log::new(alloc);
-    match prepared(alloc, &mut site, &mut log) {
-        Ok(graph) => run_flagged(rt, alloc, site, graph, crew, asked, log),
+    match prepared(rt, alloc, &mut site, &mut log, crew.len()) {
+        Ok(graph) => run_flagged(rt, alloc, site, graph, crew, asked, started, log),
         Err(stop) => Updated {
             site,
             crew,

@@ -46,6 +46,7 @@ returns-clause-updates g c = λ means kept.
       needed = subst (λ (many : ℕ). ForUpdate wanted c.tup.result.status (OnlyWhatIsNeeded g.R.Runner.next (goes_on wanted) (used wanted many) old new c.tup.result.ran))
           (sym (length-map c.args.crew.items g.R.Runner.faults)) (c.tup.ensures.only_what_is_needed here);
       blamed = c.tup.ensures.blamed here;
+      full = c.tup.ensures.full here;
       settled = c.tup.ensures.settled here;
       states = c.tup.ensures.states here;
       users = c.tup.ensures.users refl (g.R.Runner.next, kept);

@@ -18,19 +18,20 @@ use Rattle.tup_promise.specs.Needed.{OnlyWhatIsNeeded}
 use Rattle.tup_promise.specs.Users.{IsHeldUp}
 use Rattle.tup_ends.proofs.Staying.{sources_kept}
 use Rattle.tup_promise.specs.Ran.{CrewRuns}
+use Rattle.tup_update.specs.Full.{HasFullCause}
 use Rattle.tup_top.specs.Crew.{CrewCompares}
 use Rattle.tup_top.specs.Order.{Wanted, goes_on, order, used, used_of}
 use Rattle.tup_top.specs.Printed.{Printed, PrintsUpdate, SaysWhyOf}
 use Rattle.tup_top.specs.Status.{IfCame}
 use Rattle.tup_top.specs.Telling.{Hears, TellsUpdate}
 use Rattle.tup_top.specs.declared.status.Status.TheVariants.{Memory}
-use Rattle.tup_top.specs.Promise.{OnceDone, FindsOut, ForTodo, ForUpdate, ForVerify, Lasts, Logs, NothingDone, QuietStep, HasBegunCause, HasComparedCause, HasCountedCause, HasCrewCause, HasDemoCause, HasPlainCause, IsRefusal, Spares, beside, counts}
+use Rattle.tup_top.specs.Promise.{OnceDone, FindsOut, ForTodo, ForUpdate, ForVerify, Lasts, Logs, NothingDone, QuietStep, HasBegunCause, HasComparedCause, HasCrewCause, HasDemoCause, HasPlainCause, IsRefusal, Spares, counts}
 use Rattle.tup_top.proofs.Begun.{initializes_so}
 use Rattle.tup_top.proofs.Crewed.{crew_compared, crew_compares, no_crew_ran, others_stay}
 use Rattle.tup_top.proofs.Parted.{no_runs, used_fits}
 use Rattle.tup_top.proofs.Causes.{nothing_logged, says_none}
 use Rattle.tup_top.proofs.Idle.{idle, memory_causes, memory_found_out, memory_for_init, memory_for_update, memory_for_verify, memory_logs, memory_opens, memory_prints}
-use Rattle.tup_top.proofs.Reported.{tells_nothing, unheard}
+use Rattle.tup_top.proofs.Reported.{tells_no_folder, tells_nothing, unheard}
 use Rattle.tup_top.proofs.Success.{compares_so}
 use Rattle.tup_top.proofs.Untouched.{untouched_crashes, untouched_flags, untouched_needed, untouched_states}
 use Rattle.tup_top.proofs.call.tup.Goals as goal
@@ -125,10 +126,6 @@ pub returns-in-Ok-Init-clause-blamed_reporter : goal.returns-in-Ok-Init-clause-b
 returns-in-Ok-Init-clause-blamed_reporter g c = λ is _.
     absurd (subst (HasBegunCause (g.S.Site.faults c.args.site) (g.S.Site.faults c.init-status.new.site) (g.K.Sink.faults c.args.out.now) (g.K.Sink.faults c.init-status.new.out)) is c.init-status.ensures.counted_cause)
 
-pub returns-in-Ok-Todo-clause-blamed_reporter : goal.returns-in-Ok-Todo-clause-blamed_reporter
-returns-in-Ok-Todo-clause-blamed_reporter g c = λ is _.
-    absurd (subst (HasCountedCause (beside [] (g.S.Site.faults c.args.site) (g.K.Sink.faults c.args.out.now)) (beside [] (g.S.Site.faults c.todo-status.new.site) (g.K.Sink.faults c.todo-status.new.out))) is (c.todo-status.ensures.counted_cause []))
-
 pub returns-in-Ok-Verify-clause-blamed_reporter : goal.returns-in-Ok-Verify-clause-blamed_reporter
 returns-in-Ok-Verify-clause-blamed_reporter g c = λ is _.
     absurd (subst (HasComparedCause (counts g.S.Site.faults g.R.Runner.faults g.K.Sink.faults c.args.site (c.index_mut.result.now ∷ []) c.args.out.now)
@@ -167,14 +164,14 @@ returns-in-Ok-Todo-clause-plain_cause g c =
     let is = rw c.in-Ok-Todo.field-0-is at wanted in
     let before = counts g.S.Site.faults g.R.Runner.faults g.K.Sink.faults c.args.site c.args.crew.items c.args.out.now in
     let now = counts g.S.Site.faults g.R.Runner.faults g.K.Sink.faults c.todo-status.new.site c.args.crew.items c.todo-status.new.out in
-    subst (λ (w : Wanted). HasPlainCause w before now c.todo-status.result) (sym is) (c.todo-status.ensures.counted_cause (map g.R.Runner.faults c.args.crew.items))
+    subst (λ (w : Wanted). HasPlainCause w before now c.todo-status.result.status) (sym is) (c.todo-status.ensures.counted_cause (map g.R.Runner.faults c.args.crew.items))
 
 pub returns-in-Ok-Todo-clause-found_out : goal.returns-in-Ok-Todo-clause-found_out
 returns-in-Ok-Todo-clause-found_out g c = λ tells.
     let wanted = rw c.in-Ok-Todo.is at c.order_of.ensures in
     let is = rw c.in-Ok-Todo.field-0-is at wanted in
     let kept = IsKeptBySome g.S.Site c.args.site in
-    subst (λ (w : Wanted). ForTodo w c.todo-status.result (FindsOut kept (g.S.Site.world c.args.site) (g.S.Site.world c.todo-status.new.site))) (sym is) (c.todo-status.ensures.found_out tells)
+    subst (λ (w : Wanted). ForTodo w c.todo-status.result.status (FindsOut kept (g.S.Site.world c.args.site) (g.S.Site.world c.todo-status.new.site))) (sym is) (c.todo-status.ensures.found_out tells)
 
 pub returns-in-Ok-Todo-clause-known : goal.returns-in-Ok-Todo-clause-known
 returns-in-Ok-Todo-clause-known g c = λ tells _. c.todo-status.ensures.known tells
@@ -190,6 +187,12 @@ returns-in-Ok-Todo-clause-kept g c = λ here _. c.todo-status.ensures.kept here.
 
 pub returns-in-Ok-Todo-clause-sources_stay : goal.returns-in-Ok-Todo-clause-sources_stay
 returns-in-Ok-Todo-clause-sources_stay g c = λ tells some _. c.todo-status.ensures.sources_stay tells some
+
+pub returns-in-Ok-Todo-clause-tells_todo : goal.returns-in-Ok-Todo-clause-tells_todo
+returns-in-Ok-Todo-clause-tells_todo g c = λ _. c.todo-status.ensures.tells
+
+pub returns-in-Ok-Todo-clause-blamed_reporter : goal.returns-in-Ok-Todo-clause-blamed_reporter
+returns-in-Ok-Todo-clause-blamed_reporter g c = c.todo-status.ensures.blamed_reporter
 
 -- a comparison
 
@@ -244,6 +247,15 @@ returns-clause-tells g c = λ _.
     tells_nothing (used (order c.args.words.now) (length c.args.crew.items)) g.S.Site.tells (goes_on (order c.args.words.now)) (Hears told faults tellers tellers c.nobody-in-Err-Memory.result.items)
     (unheard told faults tellers c.nobody-in-Err-Memory.result.items c.nobody-in-Err-Memory.ensures nothing_logged Memory) (g.S.Site.world c.args.site) c.new-in-Err-Memory.result c.new-in-Err-Memory.ensures (g.K.Sink.faults c.args.out.now)
     (g.K.Sink.faults c.args.out.now)
+
+pub returns-clause-tells_todo : goal.returns-clause-tells_todo
+returns-clause-tells_todo g c = λ _.
+    let tellers = c.args.tellers.now.items in
+    let told = g.T.Reporter.told in
+    let faults = g.T.Reporter.faults in
+    let failed = c.nobody-in-Err-Memory.result.items in
+    tells_no_folder (IsTrue g.S.Site.tells × IsKeptBySome g.S.Site c.args.site) (Hears told faults tellers tellers failed) (unheard told faults tellers failed c.nobody-in-Err-Memory.ensures nothing_logged Memory)
+    (g.S.Site.world c.args.site) (g.K.Sink.faults c.args.out.now) (g.K.Sink.faults c.args.out.now)
 
 pub returns-clause-printed : goal.returns-clause-printed
 returns-clause-printed g c = λ _.
@@ -356,6 +368,9 @@ returns-clause-only_what_is_needed g c = λ here.
 
 pub returns-clause-blamed : goal.returns-clause-blamed
 returns-clause-blamed g c = λ _. memory_for_update (order c.args.words.now) (IsToBlame g.R.Runner.next (g.S.Site.world c.args.site) (g.S.Site.world c.args.site) c.new-in-Err-Memory.result) tt
+
+pub returns-clause-full : goal.returns-clause-full
+returns-clause-full g c = λ _. memory_for_update (order c.args.words.now) (HasFullCause g.S.Site c.args.site c.args.site c.new-in-Err-Memory.result) tt
 
 pub returns-clause-settled : goal.returns-clause-settled
 returns-clause-settled g c = λ _. memory_for_update (order c.args.words.now) (OnceDone (IsSettled g.S.Site c.args.site)) (λ done. cc done)

@@ -6,6 +6,7 @@ use Rattle.tup_promise.specs.Finished.{IsSettled, ExactlyTheFiles}
 use Rattle.tup_promise.specs.Needed.{OnlyWhatIsNeeded}
 use Rattle.tup_promise.specs.Ran.{CrewRuns}
 use Rattle.tup_promise.specs.Users.{IsHeldUp}
+use Rattle.tup_update.specs.Full.{HasFullCause}
 use Rattle.tup_top.specs.Lines.{lines}
 use Rattle.tup_top.specs.Printed.{Prints}
 use Rattle.tup_top.specs.Promise.{Logs, OnceDone, OpensStore, Spares}
@@ -117,6 +118,11 @@ returns-clause-blamed g c = λ kept.
     let update = c.update_site-site in
     answered_told (IsToBlame g.R.Runner.next (g.S.Site.world c.args.site) (g.S.Site.world update.result.site) update.result.log.ran) _ _ _ _ update.result.log update.result.stopped _ _ refl c.tell_all-status.ensures.ends update.ensures.counted_cause.any
     (update.ensures.blamed kept) tt
+
+pub returns-clause-full : goal.returns-clause-full
+returns-clause-full g c = λ kept.
+    let update = c.update_site-site in
+    answered_told (HasFullCause g.S.Site c.args.site update.result.site update.result.log.ran) _ _ _ _ update.result.log update.result.stopped _ _ refl c.tell_all-status.ensures.ends update.ensures.counted_cause.any (update.ensures.full kept) tt
 
 pub returns-clause-settled : goal.returns-clause-settled
 returns-clause-settled g c = λ kept.

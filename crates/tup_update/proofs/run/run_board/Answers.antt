@@ -16,7 +16,7 @@ use Rattle.tup_promise.specs.Cause.{CrewCountedCause, CrewRunCause}
 use Rattle.tup_access.specs.declared.verdict.Verdict.{Verdict}
 use Rattle.tup_promise.specs.declared.stop.Stop.TheVariants as stop
 use Rattle.tup_update.specs.Run.{OfBads, StopsAtBad, StopsBy}
-use Rattle.tup_update.proofs.Counting.{counted, large_there, shared, stops_running, stops_so}
+use Rattle.tup_update.proofs.Counting.{counted, large_there, shared, stopped_full, stops_running, stops_so}
 use Rattle.tup_update.proofs.Crewed.{alone_count, crew_cause, crew_runs, one_rose}
 use Rattle.tup_apart.specs.Run.{OutputsOnce}
 use Rattle.tup_rule.specs.declared.rule.RuleName.{RuleName}
@@ -31,7 +31,7 @@ use Rattle.tup_promise.specs.Prepared.{IsPrepared}
 use Rattle.tup_promise.specs.Ran.{CrewRuns, command_of}
 use Rattle.tup_update.specs.Promised.{Promises, WasPrepared}
 use Rattle.tup_update.proofs.FirstBad.{HasBad, bad_is_there}
-use Rattle.tup_update.proofs.Promised.{blames_rules, done_by, files_by, goes_on, runs_all_by, stops_at_bad}
+use Rattle.tup_update.proofs.Promised.{blames_rules, done_by, files_by, full_by, goes_on, runs_all_by, stops_at_bad}
 use Rattle.tup_update.proofs.run.run_board.Given.{Over}
 use Rattle.tup_update.proofs.run.run_board.Goals.{After-told}
 use Rattle.tup_update.specs.Ended.{TellsFor, ends, told_ends}
@@ -213,6 +213,9 @@ returns-clause-promised g c = λ old tells means was.
           let at = bad_at g c name verdict is in
           c.bad_rules_are_bad.ensures board first since at.at ran name verdict tells means keeps opened.prepared (names_run g c) at.is.came (has_name g c name verdict at))
           (large_there c.args.plan.now.rules (bads g c) g.S.Site g.R.Runner board keeps tells c.drain_by-done.result.drained stopped c.drain_by-done.ensures.drains (stops_by g c));
+      full = full_by g.S.Site old board.site ran stopped (λ is.
+          c.full_is_true.ensures board first since ran tells keeps opened.prepared (names_run g c)
+          (stopped_full c.args.plan.now.rules (bads g c) (state board) c.drain_by-done.result.drained stopped c.drain_by-done.ensures.drains (stops_by g c) is));
       kept = c.boards_are_kept.ensures board first since tells means keeps (graph_read g c) opened.prepared once;
       settled = λ none. c.done_is_settled.ensures board first since tells means keeps (graph_read g c) opened.prepared once (all_done g c none);
     })

@@ -6,7 +6,7 @@ use Rattle.tup_ends.proofs.Stated.{kept_stated}
 use Rattle.tup_ends.proofs.Staying.{sources_kept}
 use Rattle.tup_phases.specs.Logged.{ended_rules}
 use Rattle.tup_update.proofs.Chained.{counted, explained, none_counted, none_explained}
-use Rattle.tup_update.proofs.Promised.{blames_sources, runs_before}
+use Rattle.tup_update.proofs.Promised.{blames_sources, full_before, runs_before}
 use Rattle.tup_update.proofs.Logging.{before_logged, running_spares}
 use Rattle.tup_update.proofs.Crewed.{crew_before}
 use Rattle.tup_update.proofs.Whole.{before_counted, before_ran, opened_running, within_before, within_running}
@@ -54,6 +54,9 @@ returns-in-Ok-clause-states g c = λ here. (promised g c here).states
 pub returns-in-Ok-clause-blamed : goal.returns-in-Ok-clause-blamed
 returns-in-Ok-clause-blamed g c = λ here. (promised g c here).blamed
 
+pub returns-in-Ok-clause-full : goal.returns-in-Ok-clause-full
+returns-in-Ok-clause-full g c = λ here. (promised g c here).full
+
 pub returns-in-Ok-clause-kept : goal.returns-in-Ok-clause-kept
 returns-in-Ok-clause-kept g c = λ here. (promised g c here).kept
 
@@ -82,6 +85,10 @@ returns-in-Err-clause-states g c = λ here.
 pub returns-in-Err-clause-blamed : goal.returns-in-Err-clause-blamed
 returns-in-Err-clause-blamed g c = λ here.
     blames_sources g.R.Runner.next (g.S.Site.world c.args.site) (g.S.Site.world c.prepared.new.site) c.prepared.new.log.ran c.in-Err.stop c.in-Err.ensures.stops (c.in-Err.ensures.blame here.tells g.R.Runner.next here.kept)
+
+pub returns-in-Err-clause-full : goal.returns-in-Err-clause-full
+returns-in-Err-clause-full g c = λ here.
+    full_before g.S.Site c.args.site c.prepared.new.site c.prepared.new.log.ran c.in-Err.stop (c.prepared.ensures.none.ran ∙ c.new-log.ensures.ran) (c.in-Err.ensures.full here.tells g.R.Runner.next here.kept)
 
 pub returns-in-Err-clause-only_what_is_needed : goal.returns-in-Err-clause-only_what_is_needed
 returns-in-Err-clause-only_what_is_needed g c = λ here. record {
