@@ -26,7 +26,7 @@ help:
 	@echo 'make rows       tries one file of rows: FILE=crates/tup_store_rows/data/kept.rows'
 	@echo 'make test       the gate: every proof, the edits of must-fail/ that must be refused, every test, the program as a user meets it'
 	@echo 'make edits      the edits that must be refused and that the gate leaves out; CRATES=tup_stamp tries those of that crate alone'
-	@echo 'make seats      tries workers in threads of their own at a board in memory (some minutes; nothing of that is proved)'
+	@echo 'make seats      tries workers in threads of their own, at a board and in a scan (some minutes; nothing of that is proved)'
 	@echo 'make try        the last part of the gate alone: the program over small projects, full disks, damaged stores'
 	@echo 'make shell      runs shell commands under tup_sh, builds examples/c, runs hostile commands and several at a time, clangd and distcc (passed over where there is no strace)'
 	@echo 'make real       builds and edits Lua, zlib, brotli and ninja, fetched from Debian, and compares with clean builds and with ninja (passed over without a network)'

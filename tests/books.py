@@ -6,6 +6,7 @@
 - Each limit of docs/USING.md is a number of the definition that its row names, and the manual has no other numbers.
 - Exit numbers and options are those of `tup --help` in USING and in the manual.
 - Each file, crate, function in a file, target of make and link that a document names is there.
+- Each definition of specs/ has a comment, and each file of rows its line in the stdout of its program.
 - docs/ARCHITECTURE.md and docs/GATE.md have each crate; docs/GLOSSARY.md has at most forty words, a line each.
 - CONTRIBUTING.md names each file of tests/. CHANGELOG.md begins with the version of the program, and so does the tag of this
   commit, if it has one. README has less than 8,192 bytes.
@@ -212,6 +213,21 @@ def lists():
         check(f'{name}' in contributing or name == '__pycache__', 'CONTRIBUTING.md', f'nothing of tests/{name}')
 
 
+def comments():
+    for path in sorted(glob.glob(os.path.join(TOP, 'crates', '*', 'specs', '*.antt'))):
+        crate, _, file = os.path.relpath(path, os.path.join(TOP, 'crates')).split(os.sep)
+        for name, comment in definitions(crate, file[:-5]):
+            check(comment, f'crates/{crate}/specs/{file}', f'{name} has no comment')
+
+
+def rows():
+    for path in sorted(glob.glob(os.path.join(TOP, 'crates', '*', 'data', '*.rows'))):
+        crate, _, file = os.path.relpath(path, os.path.join(TOP, 'crates')).split(os.sep)
+        lines = read('crates', crate, 'stdout').splitlines()
+        check(any(re.fullmatch(rf'{re.escape(file)}: \d+ differ', line) for line in lines), f'crates/{crate}/data/{file}',
+              'no line of stdout says that it was tried')
+
+
 def version():
     is_now = re.search(r'^const VERSION: &str = "(.*)";', read('crates/tup/src/main.rt'), re.M).group(1)
     first = re.search(r'^## (.*)$', read('CHANGELOG.md'), re.M).group(1)
@@ -240,7 +256,7 @@ def needed(crate):
 
 
 if __name__ == '__main__':
-    for part in (theorem, limits, words, links, files, steps, targets, lists, version):
+    for part in (theorem, limits, words, links, files, steps, targets, lists, comments, rows, version):
         part()
     for line in wrong:
         print(line, file=sys.stderr)

@@ -2,7 +2,8 @@
 # Several commands at a time, which nothing else can show: that commands overlap, as many as were asked for and no more; that an
 # update with several runners leaves the files of one with one, and tells the same lines in any order; that what waits burns no
 # processor; that each command has a stage of its own; what happens when one fails or the program can't be started. Words: the
-# program, and tup_sh (none: what needs it is passed over). It ends with 1 where something else came, and says so.
+# program, and tup_sh (none: what needs it is passed over). And that what each command prints stands in one piece. It ends with 1
+# where something else came, and says so.
 set -u
 tup=$(realpath "$1")
 work=$(mktemp -d)
@@ -147,6 +148,65 @@ call 0 20 -j 4
 call 0 20
 last 'done: 0 read, 0 run, 0 removed'
 [ "$(ls .tup/stage | wc -l)" -le 4 ] || wrong "in .tup/stage stands $(ls .tup/stage | tr '\n' ' ')"
+
+# what commands print: of two that print half lines by turns, to both streams, each stands in one piece and in its order
+said() { [ "$(cat ../said)" = "$1" ] || wrong "it says $(cat ../said)"; }
+begin 'two commands that print by turns' ': a |> x a b |> b' ': a |> x a c |> c'
+program "$wait_for" 'turn() { : > "$seen/$output.$1"; await "$seen/b.$1"; await "$seen/c.$1"; }' \
+    'for n in 1 2 3; do printf "$output$n "; turn $n.1; printf "and " >&2; turn $n.2; done; printf "the end of $output"'
+call 0 20 -j 2
+[ "$(sort ../said)" = "$(printf '%s1 and %s2 and %s3 and the end of %s\n' b b b b c c c c)" ] || wrong "it says $(cat ../said)"
+grep -q 'the end' ../told && wrong "it tells $(cat ../told)"
+begin 'one after another' ': a |> x a b |> b'
+program 'echo out; echo error >&2'
+call 0 20 -j 1
+said error
+[ "$(head -n 1 ../told)" = out ] || wrong "it tells $(cat ../told)"
+begin 'a stream that is opened anew' ': a |> x a b |> b'
+program 'echo one; echo two > /dev/stderr; echo three > /dev/stdout; echo four >&2'
+call 0 20
+said "$(printf 'one\ntwo\nthree\nfour')"
+begin 'a command that prints and fails' ': a |> x a b |> b'
+program 'printf why; echo "E 3" > "$stage/log"; exit'
+call 1 20 --verbose
+said "$(printf '[1/1] .: x a b\n[1/1] .: x a b\nwhy\n.: x a b: status 3')"
+begin 'a command that fails and prints nothing' ': a |> x a b |> b'
+program 'echo "E 3" > "$stage/log"; exit'
+call 1 20 --verbose
+said "$(printf '[1/1] .: x a b\n.: x a b: status 3')"
+begin 'a command that leaves something running' ': a |> x a b |> b'
+program 'echo now; (sleep 30; echo late) &'
+call 0 20
+said now
+begin 'commands that print 100 MB each' ': a |> x a b |> b' ': a |> x a c |> c'
+program 'head -c 100000000 /dev/zero | tr "\\0" "$output"'
+"$tup" -j 2 > ../told 2> ../said &
+one=$!
+most=0
+while size=$(awk '/^VmHWM/ { print $2 }' /proc/$one/status 2> /dev/null) && [ -n "$size" ]; do most=$size; sleep 0.1; done
+wait $one || wrong "exit $?: $(tail -1 ../told)"
+[ "$most" -gt 0 ] && [ "$most" -lt 50000 ] || wrong "it took $most KB of memory"
+[ "$(fold -w 10000 ../said | uniq -c | awk '{ print $1, length($2), substr($2, 1, 1) }' | sort -k 3 | paste -sd,)" = '10000 10000 b,10000 10000 c' ] || wrong "its $(wc -c < ../said) bytes aren't two pieces"
+
+# what was printed so far is shown where an update is stopped, as Ctrl-C stops it, or is killed alone
+so_far=$(printf 'tup was stopped. A command that ran had printed:\nso far')
+stopped() {
+    for _ in $(seq 100); do [ "$(cat ../said)" = "$so_far" ] && [ -z "$(find .tup/stage -name '*.printed')" ] && return; sleep 0.05; done
+    wrong "it says $(cat ../said), and there is $(ls .tup/stage)"
+}
+begin 'an update that is stopped' ': a |> x a b |> b'
+program 'echo so far; sleep 20'
+timeout -s INT 3 "$tup" > ../told 2> ../said
+stopped
+begin 'an update that is killed alone' ': a |> x a b |> b'
+program 'echo so far; : > "$seen/printed"; sleep 3'
+"$tup" > ../told 2> ../said &
+one=$!
+for _ in $(seq 200); do [ -e ../seen/printed ] && break; sleep 0.02; done
+sleep 0.3
+kill -9 $one
+wait $one 2> /dev/null
+stopped
 
 # what waits for a long command burns no processor: in hundredths of a second, of tup and all that it waited for. One worker that
 # looked again and again would use 400.

@@ -6,6 +6,7 @@
 set -u
 tup=$(realpath "$1")
 script=$(realpath "$0")
+version=$(sed -n 's/^const VERSION: &str = "\(.*\)";/\1/p' "$(dirname "$0")/../crates/tup/src/main.rt")
 shim=$(realpath -m "$(dirname "$tup")/../../tup_shim/out/tup_shim")
 work=$(mktemp -d)
 trap 'cd /; umount "$work/small" 2>/dev/null; rm -rf "$work"' EXIT
@@ -105,7 +106,7 @@ row "an unknown option" 2 '' upd
 said '.tup/options: unknown word --fast'
 row "an unknown option, compared" 2 '' verify
 row "an unknown option, without an order" 2 ''
-row "an unknown option, and one asks for the version" 0 'tup 0.5;' --version
+row "an unknown option, and one asks for the version" 0 "tup $version;" --version
 printf '\377' > .tup/options
 row "options that are no text" 2 '' upd
 said ".tup/options: unknown word that isn't UTF-8"

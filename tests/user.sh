@@ -6,6 +6,7 @@
 # can't run commands here.
 set -u
 tup=$(realpath "$1")
+version=$(sed -n 's/^const VERSION: &str = "\(.*\)";/\1/p' "$(dirname "$0")/../crates/tup/src/main.rt")
 sh=$(realpath -m "$(dirname "$tup")/../../tup_sh/out/tup_sh")
 work=$(mktemp -d)
 chmod 755 "$work"
@@ -133,7 +134,7 @@ row "it is compared" 0 'same;' '' verify
 row "what would be done" 0 'done: 0 read, 0 run, 0 removed;' '' todo
 row "a word that is none" 2 'fault: usage, word 2;' '' upd now
 row "an option that is none" 2 'fault: usage, word 1;' '' --fast
-row "the version" 0 'tup 0.5;' '' --version
+row "the version" 0 "tup $version;" '' --version
 for there in '.hidden/with blank' 'with blank' .tup; do
     cd "$top/$there" || exit 1
     row "in the folder $there" 0 'done: 0 read, 0 run, 0 removed;' ''
@@ -246,7 +247,7 @@ row "a program of the call is one from here" 8 'fault: the runner failed;' "tup:
 options "a program that isn't there" '--proc\nno_such_program\n' 8 'read .;fault: the runner failed;' "tup: no_such_program: $no_start"
 row "the call names another" 0 'run .: cp a b;done: 0 read, 1 run, 0 removed;' '' --proc "$work/two"
 options "a program that isn't there, -k and --verbose: it lists all the same" '--proc\nno_such_program\n-k\n--verbose\n' 8 \
-    'read .;fault: the runner failed;' "[1] .: cp a b;tup: no_such_program: $no_start"
+    'read .;fault: the runner failed;' "[1/1] .: cp a b;tup: no_such_program: $no_start"
 row "what would be done needs no program, and shows none" 0 'todo run .: cp a b;done: 0 read, 0 run, 0 removed;' '' todo
 options "no program behind --proc" '--proc\n' 2 '' 'tup: .tup/options: no program behind --proc;'
 options "two programs" "--proc one\n--proc two\n" 2 '' 'tup: .tup/options: a second --proc;'
@@ -256,7 +257,7 @@ mkdir sub && cd sub || exit 1
 row "a word that is none, for a call below the top" 2 '' 'tup: ../.tup/options: unknown word --fast;'
 row "a word that is none, where files are compared" 2 '' 'tup: ../.tup/options: unknown word --fast;' verify
 row "a word that is none, where one asks what would be done" 2 '' 'tup: ../.tup/options: unknown word --fast;' todo
-row "a word that is none, and one asks for the version" 0 'tup 0.5;' '' --version
+row "a word that is none, and one asks for the version" 0 "tup $version;" '' --version
 options "a word without dashes" 'proc tup_sh\n' 2 '' 'tup: .tup/options: unknown word proc tup_sh;'
 options "a word of calls alone" '--explain\n' 2 '' 'tup: .tup/options: unknown word --explain;'
 options "a word that was joined" '--proc=tup_sh\n' 2 '' 'tup: .tup/options: unknown word --proc=tup_sh;'
@@ -274,7 +275,7 @@ row "it goes on, as all who check it out" 1 "initialized;$goes_on" ''
 folder ': a |> fail 3 |> c' "$copy"
 row "it begins so" 0 'initialized;' '' init -k
 row "and goes on" 1 "$goes_on" '' upd
-options "each command is shown" '--verbose\n' 0 "$made" '[1] .: cp a b;'
+options "each command is shown" '--verbose\n' 0 "$made" '[1/1] .: cp a b;'
 rm b
 row "the call is quiet" 0 'run .: cp a b;done: 0 read, 1 run, 0 removed;' '' upd --quiet
 options "a word for what is shown, twice" '--quiet\n--quiet\n' 2 '' 'tup: .tup/options: a second --quiet;'
@@ -340,7 +341,7 @@ ran_both='read .;run .: cp a b;run .: cat a a > c;done: 1 read, 2 run, 0 removed
 two_rules
 row "no terminal" 0 "$ran_both" '' upd
 two_rules
-row "no terminal, and each command is shown" 0 "$ran_both" '[1] .: cp a b;[2] .: cat a a > c;' upd --verbose
+row "no terminal, and each command is shown" 0 "$ran_both" '[1/2] .: cp a b;[2/2] .: cat a a > c;' upd --verbose
 row "nothing is run" 0 'done: 0 read, 0 run, 0 removed;' '' --verbose
 two_rules
 row "no terminal, and nothing is shown" 0 "$ran_both" '' --quiet
@@ -349,47 +350,68 @@ row "a word for what is shown, twice" 2 'fault: usage, word 3;' '' upd --verbose
 row "they ask for an update alone" 2 'fault: usage, word 2;' '' verify --verbose
 project ': a |> cp a b && fail 3 |> b'
 row "a command that fails" 1 'read .;bad .: cp a b && fail 3;fault: .: cp a b && fail 3: status 3;' \
-    '[1] .: cp a b && fail 3;.: cp a b && fail 3: status 3;' --verbose
+    '[1/1] .: cp a b && fail 3;.: cp a b && fail 3: status 3;' --verbose
 project ': a |> cp a c |> b'
-row "a command that writes another file" 1 'read .;bad .: cp a c;fault: .: cp a c: writes c;' '[1] .: cp a c;' --verbose
+row "a command that writes another file" 1 'read .;bad .: cp a c;fault: .: cp a c: writes c;' '[1/1] .: cp a c;' --verbose
 two_rules
 same "standard error that is closed" "$("$tup" --verbose -j 1 2>&- | tr '\n' ';')" "$ran_both"
 two_rules
 same "standard error that takes nothing" "$("$tup" --verbose -j 1 2> /dev/full | tr '\n' ';')" "$ran_both"
 two_rules
 "$tup" --verbose -j 1 2> "$work/said" >&-
-same "standard output that is closed" "$?: $(tr '\n' ';' < "$work/said")" '9: [1] .: cp a b;[2] .: cat a a > c;'
+same "standard output that is closed" "$?: $(tr '\n' ';' < "$work/said")" '9: [1/2] .: cp a b;[2/2] .: cat a a > c;'
 
 # The same on a terminal, which is standard error alone: what it is given, with R for a return, ^ for an escape and ; for a line
 # feed. Its lines are those of a file.
 screen() {
     name=$1 status=$2 wanted=$3
     shift 3
-    found=$(script -qec "'$tup' $* -j 1 > '$work/lines'" /dev/null < /dev/null; printf 'exit %s' "$?")
+    found=$(script -qec "'$tup' $* -j $jobs > '$work/lines'" /dev/null < /dev/null; printf 'exit %s' "$?")
     same "$name" "$(printf '%s' "$found" | tr '\r\033\n' 'R^;')" "${wanted}exit $status"
 }
 lines() { same "$name, its lines" "$(tr '\n' ';' < "$work/lines")" "$1"; }
 over() { printf 'R^[K^[?7l%s^[?7h^[999C ' "$1"; }
 cleared='R^[K'
+jobs=1
 if script -qec true /dev/null < /dev/null > /dev/null 2>&1; then
     export TERM=xterm
     two_rules
-    screen "a terminal" 0 "$(over '[1] .: cp a b')$(over '[2] .: cat a a > c')$cleared" upd
+    screen "a terminal" 0 "$(over '[1/2] .: cp a b')$(over '[2/2] .: cat a a > c')$cleared" upd
     lines "$ran_both"
     two_rules
     screen "a terminal, and nothing is shown" 0 '' --quiet
     lines "$ran_both"
     two_rules
-    screen "a terminal, and each command is shown" 0 '[1] .: cp a bR;[2] .: cat a a > cR;' --verbose
+    screen "a terminal, and each command is shown" 0 '[1/2] .: cp a bR;[2/2] .: cat a a > cR;' --verbose
     lines "$ran_both"
     project ': a |> cp a b && fail 3 |> b'
-    screen "a command that fails on a terminal" 1 "$(over '[1] .: cp a b && fail 3')R;.: cp a b && fail 3: status 3R;$cleared"
+    screen "a command that fails on a terminal" 1 "$(over '[1/1] .: cp a b && fail 3')R;.: cp a b && fail 3: status 3R;$cleared"
     lines 'read .;bad .: cp a b && fail 3;fault: .: cp a b && fail 3: status 3;'
     long=$(printf '%0900d' 7)
     project ": a |> echo é-$long > b |> b"
-    screen "a long command" 0 "$(over "[1] .: echo é-$long > b")$cleared"
+    screen "a long command" 0 "$(over "[1/1] .: echo é-$long > b")$cleared"
     project "$(printf ': a |> echo x\033[31m\302\233my > b |> b')"
-    screen "a command with control characters" 0 "$(over '[1] .: echo x?[31m?my > b')$cleared"
+    screen "a command with control characters" 0 "$(over '[1/1] .: echo x?[31m?my > b')$cleared"
+    # A program whose command `say N` prints a word and ends with N. With several runners the word is kept until then, and shown below
+    # the command's line.
+    printf '#!/bin/sh\nprintf word\nprintf "E %%s\\n" "${4#say }" > "$3/log"\n' > "$work/says"
+    chmod +x "$work/says"
+    says() {
+        folder ": |> say $1 |>"
+        "$tup" init --proc "$work/says" > /dev/null
+    }
+    says 0
+    screen "a command that prints" 0 "$(over '[1/1] .: say 0')$cleared"
+    lines 'wordread .;run .: say 0;done: 1 read, 1 run, 0 removed;'
+    jobs=2
+    says 0
+    screen "a command that prints, of two runners" 0 "$(over '[1/1] .: say 0')$cleared^[?7l[1/1] .: say 0^[?7hR;wordR;$cleared"
+    lines 'read .;run .: say 0;done: 1 read, 1 run, 0 removed;'
+    says 3
+    screen "one that fails" 1 "$(over '[1/1] .: say 3')$cleared^[?7l[1/1] .: say 3^[?7hR;wordR;.: say 3: status 3R;$cleared"
+    says 0
+    screen "one whose line isn't shown" 0 "wordR;" --quiet
+    jobs=1
     two_rules
     TERM=dumb
     screen "a terminal that only prints" 0 '' upd

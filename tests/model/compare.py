@@ -37,8 +37,10 @@ def compare_rows(crates, name, program):
         data = os.path.join(work, 'data')
         shutil.copytree(os.path.join(crates, crate, 'data'), data)
         for file, (draw, count) in files.items():
+            drawn = list(draw(random.Random('%s %d' % (file, SEED)), max(1, int(count * COUNT))))
+            print('%s.rows: %d lines are drawn' % (file, len(drawn)))
             with open(os.path.join(data, file + '.rows'), 'w') as rows:
-                rows.writelines(draw(random.Random('%s %d' % (file, SEED)), max(1, int(count * COUNT))))
+                rows.writelines(drawn)
         said = subprocess.run([os.path.abspath(program)], cwd=data, stdout=subprocess.PIPE).stdout.decode()
     totals = [line for line in said.splitlines() if line.split('.')[0] in files and line.endswith('differ')]
     others = [line for line in said.splitlines() if line not in totals and not line.endswith(' 0 differ')]

@@ -18,7 +18,7 @@ mod streams;
 mod top;
 mod words;
 
-use crew::{crew_of, minis, starters};
+use crew::{Seats, crew_of, minis, starters};
 use error_log::ErrorLog;
 use options::{Options, Voice};
 use output::Output;
@@ -54,7 +54,7 @@ tup makes the files that the Tupfiles of a project ask for. It may be called in 
   tup --proc P    update, each command run through the program P; also tup upd --proc P
   tup -k          update, and go on after a bad command with what doesn't need it; also tup upd -k
   tup -j N        update, at most N commands at a time, 1 to 16; without it 4; also tup upd -j N, -jN
-  tup --explain   update, and say behind each rule why it was run; also tup upd --explain
+  tup --explain   update, and say after each rule why it was run; also tup upd --explain
   tup --log       update, and print to standard error what was read, removed, started and ended; also tup upd --log
   tup --verbose   update, and print each command before it is run; also tup upd --verbose
   tup --quiet     update, and show nothing while it runs; also tup upd --quiet
@@ -69,8 +69,8 @@ Exit numbers: 0 done, 1 a command's fault, 2 usage, 3 no project here, or one al
 /// How many commands an update runs at a time where nothing is said.
 const JOBS: u32 = 4;
 
-/// The version, which stands here alone.
-const VERSION: &str = "0.5";
+/// The version. The tests, the manual and the Makefile read it here.
+const VERSION: &str = "0.6";
 
 fn main(rt: HostRuntime) -> ExitCode {
     streams::fill(rt);
@@ -180,10 +180,18 @@ fn without_project<W: Threads + Wait + Sync>(
     run_small(rt, crews, alloc, words, &here, Syncs::Done).exit()
 }
 
-/// Lists what an update of the project would do.
+/// Lists what an update of the project would do. It digests the files in as many threads as an update would.
 fn todo<W: Threads + Wait + Sync>(rt: HostRuntime, crews: &W, alloc: Global, words: &[Word]) -> u8 {
     match project(rt, alloc) {
-        Ok((top, options)) => run_small(rt, crews, alloc, words, &top, options.syncs).exit(),
+        Ok((top, options)) => {
+            let call = Call {
+                words,
+                top: &top,
+                syncs: options.syncs,
+                manner: Manner::Silent,
+            };
+            run_by_minis(rt, crews, alloc, &call, options.jobs.unwrap_or(JOBS)).exit()
+        }
         Err(status) => status,
     }
 }
@@ -274,7 +282,7 @@ fn keep_going<W: Threads + Wait + Sync>(
     }
 }
 
-/// Words, and one more behind them.
+/// Words, and one more after them.
 fn words_with(alloc: Global, words: &[Word], more: &str) -> Result<Vec<Word>, AllocError> {
     let mut all = Vec::new(alloc);
     for word in words {
@@ -337,7 +345,7 @@ fn run_by_minis<W: Threads + Wait + Sync>(
     jobs: u32,
 ) -> Status {
     match minis(alloc, jobs) {
-        Ok(runners) => run(rt, crews, alloc, call, runners).0,
+        Ok(runners) => run(rt, crews, alloc, call, None, runners).0,
         Err(_) => no_memory(rt),
     }
 }
@@ -348,6 +356,7 @@ fn run<W: Threads + Wait + Sync, R: Runner + Send>(
     crews: &W,
     alloc: Global,
     call: &Call,
+    seats: Option<&Seats>,
     runners: Vec<R>,
 ) -> (Status, Vec<R>)
     requires { IsCrew runners.items }
@@ -359,8 +368,8 @@ fn run<W: Threads + Wait + Sync, R: Runner + Send>(
         return (no_memory(rt), runners);
     };
     let started = Started::new();
-    match crew_of(rt, alloc, call.manner, &started, runners) {
-        Ok(crew) => run_crew(rt, crews, alloc, call, site, crew, back),
+    match crew_of(rt, alloc, call.manner, &started, seats, runners) {
+        Ok(crew) => run_crew(rt, crews, alloc, call, site, crew, &started, back),
         Err(_) => (no_memory(rt), back),
     }
 }
@@ -373,6 +382,7 @@ fn run_crew<W: Threads + Wait + Sync, R: Runner + Send>(
     call: &Call,
     site: FsSite<HostRuntime>,
     crew: Vec<Progress<R, ErrorScreen>>,
+    started: &Started,
     mut back: Vec<R>,
 ) -> (Status, Vec<R>)
     requires { IsCrew crew.items }
@@ -387,6 +397,7 @@ fn run_crew<W: Threads + Wait + Sync, R: Runner + Send>(
         call.words,
         site,
         crew,
+        started,
         &mut tellers,
         &mut output,
     );
@@ -432,10 +443,13 @@ fn run_through<W: Threads + Wait + Sync>(
     program: &Text,
     jobs: u32,
 ) -> u8 {
-    let Ok(runners) = starters(rt, alloc, call.top, program, jobs) else {
+    let Ok(seats) = Seats::new(rt, alloc, call.top, jobs) else {
         return told(&rt, Status::Memory);
     };
-    let (status, runners) = run(rt, crews, alloc, call, runners);
+    let Ok(runners) = starters(rt, alloc, call.top, program, &seats, jobs) else {
+        return told(&rt, Status::Memory);
+    };
+    let (status, runners) = run(rt, crews, alloc, call, Some(&seats), runners);
     for runner in &runners {
         if let Some(fault) = runner.last() {
             // Words that can't be printed change nothing: the exit number tells as much.

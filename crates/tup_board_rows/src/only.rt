@@ -58,7 +58,7 @@ fn tried(alloc: Global, given: &Given, said: &Words) -> Result<Words, RowFault> 
 fn over(alloc: Global, site: MemSite, number: u32, steps: u32) -> Result<Words, RowFault>
     requires { number < 16 }
 {
-    match board_over(alloc, site) {
+    match board_over(alloc, site, false) {
         Ok((board, plan)) => seated(alloc, board, plan, number, steps),
         Err(fault) => Err(fault),
     }

@@ -89,12 +89,13 @@ fn scanned(
 pub(crate) fn board_over<S: Site, R: Runner>(
     alloc: Global,
     mut site: S,
+    keep_going: bool,
 ) -> Result<(Board<S, R>, Plan), RowFault>
     ensures plan { IfOk result (λ both. both.1 ≡ planned_at both.0) }
     ensures none { IfOk result (λ both. both.0.history ≡ []) }
 {
     match noted(alloc, &mut site) {
-        Ok(graph) => planned(alloc, site, graph, false),
+        Ok(graph) => planned(alloc, site, graph, keep_going),
         Err(fault) => {
             drop(site);
             Err(fault)

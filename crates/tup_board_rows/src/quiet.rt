@@ -3,7 +3,7 @@ ghost use Rattle.std.specs.Prelude.{◌≡◌, ◌+◌, ◌≤◌, ◌<◌, ◌�
 ghost use Rattle.std.specs.FinMap as finite;
 ghost use Rattle.tup_path.specs.Count.{Rose};
 ghost use Rattle.tup_path.specs.Name.{Names};
-ghost use Rattle.tup_site.specs.Cause.{CountsFaults, IsPlace, NeverTooLarge};
+ghost use Rattle.tup_site.specs.Cause.{CountsFaults, IsPlace, NeverTooLarge, most_bytes};
 ghost use Rattle.tup_site.specs.Memory.{store_in, tree_in};
 ghost use Rattle.tup_site.specs.declared.fault.SiteFailed.TheVariants.{Fault};
 ghost use Rattle.tup_board_rows.specs.Apart.{MayStand};
@@ -44,7 +44,7 @@ impl Quiet {
 
     /// How many bytes a file has, where these are too many.
     fn too_many(&self, path: &Path) -> Option<u64>
-        ensures { (bytes : ℕ) → result ≡ Some bytes → 16777216 < bytes }
+        ensures { (bytes : ℕ) → result ≡ Some bytes → most_bytes < bytes }
     {
         match &self.large {
             Some((large, bytes)) if large == path && *bytes > 16_777_216 => Some(*bytes),

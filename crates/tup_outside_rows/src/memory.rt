@@ -4,7 +4,7 @@ use crate::scanned::{passes, scanned};
 use std::alloc::{AllocError, Global};
 use tup_path::{Bytes, Path};
 use tup_rows::{Answers, RowFault, Words};
-use tup_site::{Changed, Choice, MemRefused, MemSite, Site};
+use tup_site::{Changed, Choice, MemRefused, MemSite, Site, Tear};
 
 /// A site in memory.
 #[derive(Drop)]
@@ -20,6 +20,7 @@ impl Answers for Memory {
             "edit" => self.edit(alloc, said),
             "edit_away" => self.edit_away(alloc, said),
             "crash" => self.crash(alloc, said),
+            "choice" => self.choice(alloc, said),
             "stop_after" => self.stop_after(alloc, said),
             "run_on" => self.run_on(alloc),
             "calls" => Words::shown(alloc, &self.site.calls()),
@@ -103,6 +104,14 @@ impl Memory {
         }
     }
 
+    /// What a crash now may leave that tears so.
+    fn choice(&self, alloc: Global, said: &Words) -> Words {
+        match self.site.choice(alloc, tear(said.word_at(0))) {
+            Ok(choice) => left(alloc, &choice),
+            Err(fault) => said_of(alloc, fault),
+        }
+    }
+
     fn stop_after(&mut self, alloc: Global, said: &Words) -> Words {
         self.site.stop_after(said.number_at(0));
         Words::done(alloc)
@@ -164,6 +173,27 @@ fn named(alloc: Global, said: &Words, at: usize) -> (Path, Option<Bytes>) {
             (path, Some(content))
         }
     }
+}
+
+fn tear(word: &[u8]) -> Tear {
+    match word {
+        b"lost" => Tear::Lost,
+        b"torn" => Tear::Torn,
+        _ => Tear::Kept,
+    }
+}
+
+/// The bytes of the store, and the files that differ, each with its content or `absent`.
+fn left(alloc: Global, choice: &Choice) -> Words {
+    let mut words = Words::word(alloc, choice.db.as_slice());
+    for (path, content) in choice.tree.as_slice() {
+        words.show(alloc, path);
+        match content {
+            Some(content) => words.put(alloc, content.as_slice()),
+            None => words.put(alloc, b"absent"),
+        }
+    }
+    words
 }
 
 /// The answer of an edit or a crash.

@@ -1,5 +1,4 @@
 //! The calls of `history.rows`.
-use crate::crashes::every_crash;
 use crate::session::file;
 use crate::turns::{carried_out, crash, edit, run_said, written};
 use std::alloc::Global;
@@ -79,7 +78,6 @@ impl<'a, W: Threads + Wait + Sync> Lives<'a, W> {
             "live" => self.live(alloc, said),
             "printed" => Words::word(alloc, &self.printed),
             "file" => self.file(alloc, said),
-            "every_crash" => every_crash(self.rt, alloc, said),
             _ => Words::none(alloc, RowFault::NoSuchCall),
         }
     }

@@ -1,16 +1,21 @@
-//! Answers the rows of `data/` on the whole program, and on histories of its calls with edits and crashes between, over a
-//! project in memory.
+//! Answers the rows of `data/` on the whole program, on histories of its calls with edits and crashes between, and on updates
+//! that are stopped, fail or find a damaged store, over a project in memory.
 #![tactic(auto)]
 
 mod cost;
-mod crashes;
+mod damaged;
+mod disturbed;
 mod failing;
 mod found;
 mod length;
 mod lives;
 mod many;
 mod session;
+mod table;
+mod tables;
 mod tellers;
+mod telling;
+mod trial;
 mod turns;
 
 use found::Found;
@@ -22,6 +27,7 @@ use std::io;
 use std::io::Read;
 use std::sync::Wait;
 use std::thread::Threads;
+use tables::Tables;
 use tup_rows::{Row, RowFault, report};
 
 /// Tries the rows.
@@ -36,7 +42,8 @@ fn main(rt: HostRuntime) -> io::Result<()> {
     try_rows(&rt, &rt, rt.alloc(), "todo.rows")?;
     try_rows(&rt, &rt, rt.alloc(), "explain.rows")?;
     try_rows(&rt, &rt, rt.alloc(), "told.rows")?;
-    try_lives(&rt, &rt, rt.alloc(), "history.rows")
+    try_lives(&rt, &rt, rt.alloc(), "history.rows")?;
+    try_tables(&rt, &rt, rt.alloc(), "tables.rows")
 }
 
 /// Tries the rows of a file, from a folder without a project on.
@@ -59,6 +66,17 @@ fn try_lives<R: Files + Print, W: Threads + Wait + Sync>(
 ) -> io::Result<()> {
     let text = read(rt, alloc, name)?;
     told(rt, alloc, name, &text, lived(crews, alloc, &text))
+}
+
+/// Tries the rows of a file on updates that are stopped, fail or find a damaged store.
+fn try_tables<R: Files + Print, W: Threads + Wait + Sync>(
+    rt: &R,
+    crews: &W,
+    alloc: Global,
+    name: &str,
+) -> io::Result<()> {
+    let text = read(rt, alloc, name)?;
+    told(rt, alloc, name, &text, tabled(crews, alloc, &text))
 }
 
 /// The text of a file in the working folder.
@@ -95,6 +113,22 @@ fn lived<W: Threads + Wait + Sync>(
     for line in text.lines() {
         if let Ok(Some(row)) = Row::read(alloc, line) {
             found.push(lives.answer(alloc, row.call.as_str(), &row.arguments))?;
+        }
+    }
+    Ok(Found::new(found))
+}
+
+/// The answers of the rows of a text on tables.
+fn tabled<W: Threads + Wait + Sync>(
+    crews: &W,
+    alloc: Global,
+    text: &str,
+) -> Result<Found, RowFault> {
+    let mut tables = Tables::new(crews, alloc);
+    let mut found = Vec::new(alloc);
+    for line in text.lines() {
+        if let Ok(Some(row)) = Row::read(alloc, line) {
+            found.push(tables.answer(alloc, row.call.as_str(), &row.arguments))?;
         }
     }
     Ok(Found::new(found))

@@ -12,6 +12,7 @@ use std::thread::Threads;
 use tup_graph::GraphFault;
 use tup_ledger::{begin, open, owned_paths};
 use tup_path::{Bytes, Items, Path, Paths};
+use tup_progress::Started;
 use tup_rows::{RowFault, Words, set};
 use tup_rule::RuleName;
 use tup_site::{MemSite, Site};
@@ -182,7 +183,16 @@ impl<'a, W: Threads + Wait + Sync> Session<'a, W> {
         let before = Cost::of(&site);
         match crew_of(alloc, runner, many) {
             Ok(crew) => {
-                let ran = tup(self.rt, alloc, words, site, crew, tellers, out);
+                let ran = tup(
+                    self.rt,
+                    alloc,
+                    words,
+                    site,
+                    crew,
+                    &Started::new(),
+                    tellers,
+                    out,
+                );
                 self.keep(alloc, ran, before, out)
             }
             Err(_) => {
@@ -271,7 +281,7 @@ fn calls_to_begin(alloc: Global) -> Result<u64, RowFault> {
 }
 
 /// A folder in which a project begins, and whose call of this number fails.
-fn begun_with(alloc: Global, fails: u64) -> Result<MemSite, RowFault> {
+pub(crate) fn begun_with(alloc: Global, fails: u64) -> Result<MemSite, RowFault> {
     match folder(alloc, fails) {
         Ok(site) => begun_over(alloc, site),
         Err(fault) => Err(fault),
@@ -404,7 +414,7 @@ fn words_from(alloc: Global, said: &Words, from: usize) -> Vec<Word> {
 }
 
 /// A crew of so many, up to 16, of which this runner is the first; the others never fail.
-fn crew_of(alloc: Global, runner: Failing, many: u64) -> Result<Vec<Failing>, AllocError>
+pub(crate) fn crew_of(alloc: Global, runner: Failing, many: u64) -> Result<Vec<Failing>, AllocError>
     ensures { IfOk result (λ crew. (0 < length crew.items) × (length crew.items ≤ 16)) }
 {
     let many = many.min(16) as usize;

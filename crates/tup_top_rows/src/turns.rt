@@ -4,8 +4,8 @@ use std::sync::Wait;
 use std::thread::Threads;
 use tup_history::{Lived, Turn, history};
 use tup_mini::Mini;
-use tup_path::{Bytes, Items, Path, Text};
-use tup_rows::{RowFault, Words};
+use tup_path::{Bytes, Items, Path};
+use tup_rows::Words;
 use tup_site::{Choice, Deed, MemSite};
 use tup_tell::MemSink;
 use tup_top::Word;
@@ -33,16 +33,6 @@ pub(crate) fn run_said(alloc: Global, said: &Words, from: usize, stop_after: Opt
     let mut words = Items::new(alloc);
     for at in from..said.len() {
         said.list(&mut words, Word(said.text_at(alloc, at)));
-    }
-    Turn::Run { words, stop_after }
-}
-
-/// The program is called with one word.
-pub(crate) fn run(alloc: Global, said: &Words, word: &str, stop_after: Option<u64>) -> Turn {
-    let mut words = Items::new(alloc);
-    match Text::from_str(alloc, word) {
-        Ok(word) => said.list(&mut words, Word(word)),
-        Err(_) => said.fail(RowFault::Memory),
     }
     Turn::Run { words, stop_after }
 }
