@@ -563,21 +563,23 @@ logging() {
     printf '%s\n' "$@" >> "$work/logs"
     chmod +x "$work/logs"
 }
-# Its log holds these lines, as `printf` writes them, and is bad.
+# Its log holds these lines, as `printf` writes them, and is bad; or a file that is named isn't as it says.
 bad_log() {
     logging "printf '$2' > log"
     row "a log $1" 8 'read .;fault: the runner failed;' upd --proc "$work/logs"
-    said "$work/logs: the program's log is bad"
+    said "$work/logs: ${3+./$3: $differs}the program's log is bad"
     gone "a log $1, nothing was made" b
 }
+differs="it isn't as the program found it: it was changed while tup ran, or "
 hi=$(echo hi | sha256sum | cut -c1-64)
 ho=$(echo ho | sha256sum | cut -c1-64)
 bad_log 'that is empty' ''
 bad_log 'without its end' "R $hi a\nA none\n"
 bad_log 'that goes on behind its end' 'E 0\nA none\n'
-bad_log 'with another stamp' "R $ho a\nE 0\n"
-bad_log 'that read what is not there' "R $hi none\nE 0\n"
-bad_log 'that found nothing where a file is' 'A a\nE 0\n'
+bad_log 'with another stamp' "R $ho a\nE 0\n" a
+bad_log 'with another stamp behind one that fits' "A none\nR $hi a\nR $ho ./a\nA a\nE 0\n" a
+bad_log 'that read what is not there' "R $hi none\nE 0\n" none
+bad_log 'that found nothing where a file is' 'A a\nE 0\n' a
 bad_log 'of a write without its file' 'W 0 b\nE 0\n'
 logging 'cp ../../../a w7' "printf 'R $hi a\nA none\nA b\nA ../b\nW 7 b\nE 0\n' > log"
 row "a log with a name above the project" 1 'read .;bad .: cp a b;fault: .: cp a b: reads ../b;' upd --proc "$work/logs"
@@ -587,7 +589,7 @@ file "what it wrote" b hi
 printf '#!/bin/sh\ncd "$3" && printf "R %s b\\nE 0\\n" > log\n' "$hi" > "$work/logs"
 echo ho > a
 row "a log that read its own output" 8 'fault: the runner failed;' upd --proc "$work/logs"
-said "$work/logs: the program's log is bad"
+said "$work/logs: ./b: ${differs}the program's log is bad"
 logging "printf '%s\n' \"\$1\" \"\$2\" \"\${3%/*}\" \"\$4\" > w0" 'cat own >> w0' "printf 'W 0 b\nE 0\n' > log"
 row "the words of a program" 0 "$done_copy" upd --proc "$work/logs"
 file "they are these, and own lists the outputs" b "$(printf '%s\n' . . .tup/stage 'cp a b' b)"

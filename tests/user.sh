@@ -511,6 +511,17 @@ edited_row "a source that is saved while an update runs" a 'echo ho > a' 'it was
 edited_row "a source that is replaced" a 'echo ho > new; mv new a' 'it was changed while tup ran' ho
 edited_row "a source that is deleted" a 'rm a' 'it was removed while tup ran' ''
 edited_row "a file that is made" none 'echo ho > none' 'it was not there before' ho
+# Another command has read it before, so `tup` doesn't read it again: the program finds another content than `tup` knows of.
+folder ': |> cat a |> b' ': b |> edit |> o' ': o |> cat ./a |> c'
+echo 'echo ho > a' > "$work/edit"
+"$tup" init --proc "$work/edits" > /dev/null
+row "a source that is saved once it was read" 8 'read .;run .: cat a;run .: edit;fault: the runner failed;' \
+    "tup: $work/edits: ./a: it isn't as the program found it: it was changed while tup ran, or the program's log is bad;"
+file "a source that is saved once it was read: what was made before" b hi
+row "a source that is saved once it was read: the next update" 0 'run .: cat a;run .: cat ./a;done: 0 read, 2 run, 0 removed;' ''
+file "a source that is saved once it was read: the first output" b ho
+file "a source that is saved once it was read: the other one" c ho
+row "a source that is saved once it was read: nothing is left to do" 0 'done: 0 read, 0 run, 0 removed;' ''
 edited "a" 'echo hi > new; mv new a; touch a'
 row "a source that is saved as it was" 0 'read .;run .: edit;run .: cat a;done: 1 read, 2 run, 0 removed;' ''
 edited none 'echo ho > a'

@@ -1,5 +1,5 @@
 -- What the asks of a log come to. A runner of started programs tells nothing of what they mean.
-use Rattle.std.specs.Prelude.{◌≡◌, ◌≢◌, ℕ, List, [], ◌∷◌, ◌++◌, map, Option, None, Some, Bool, true, false, Result, Ok, Err}
+use Rattle.std.specs.Prelude.{◌≡◌, ◌≢◌, ℕ, List, [], ◌∷◌, ◌++◌, map, Option, None, Some, Result, Ok, Err}
 use Rattle.tup_stamp.specs.Stamp.{stamp}
 use Rattle.tup_stamp.specs.declared.Stamp.{Stamp}
 use Rattle.tup_proc.specs.declared.line.LogLine.{LogLine}
@@ -50,15 +50,15 @@ pub record AsSaid (said : List Said) (came : Asks → Type 0) (refusal : Option 
   pub each : map shown asks ≡ said
   pub granted : refusal ≡ None
 
--- what is said was asked in this order up to the first answer that isn't as it says
-pub record Unlike (said : List Said) (came : Asks → Type 0) (refusal : Option Refusal) : Type 0 where
+-- what is said was asked in this order up to the first answer that isn't as it says: the one for this text
+pub record Unlike (said : List Said) (text : List ℕ) (came : Asks → Type 0) (refusal : Option Refusal) : Type 0 where
   pub asks : Asks
-  pub ask : List ℕ × Answer
+  pub answer : Answer
   pub digest : Option Stamp
   pub rest : List Said
-  pub came_by : came (asks ++ ask ∷ [])
-  pub is : said ≡ map shown asks ++ (ask.0, digest) ∷ rest
-  pub unlike : found ask.1 ≢ digest
+  pub came_by : came (asks ++ (text, answer) ∷ [])
+  pub is : said ≡ map shown asks ++ (text, digest) ∷ rest
+  pub unlike : found answer ≢ digest
   pub granted : refusal ≡ None
 
 -- what is said was asked in this order up to a text to which the view gave no answer
@@ -71,10 +71,10 @@ pub record Unanswered (said : List Said) (came : Asks → Type 0) (refusal : Opt
   pub is : said ≡ map shown asks ++ (last, digest) ∷ rest
   pub refused : refusal ≡ Some (record { text = last; why = why })
 
--- what the asks of a log come to: whether all answers are as the log says, or why the view gave none
-abbrev pub AsksAs : List Said → (Asks → Type 0) → Option Refusal → Result Bool RunFailed → Type 0
-AsksAs said came refusal (Ok true) = AsSaid said came refusal
-AsksAs said came refusal (Ok false) = Unlike said came refusal
+-- what the asks of a log come to: all answers are as the log says, or the one for a text isn't, or why the view gave none
+abbrev pub AsksAs : List Said → (Asks → Type 0) → Option Refusal → Result (Option (List ℕ)) RunFailed → Type 0
+AsksAs said came refusal (Ok None) = AsSaid said came refusal
+AsksAs said came refusal (Ok (Some text)) = Unlike said text came refusal
 AsksAs said came refusal (Err Denied) = Unanswered said came refusal ViewDenied
 AsksAs said came refusal (Err View) = Unanswered said came refusal ViewFault
 AsksAs said came refusal (Err Fault) = ⊥

@@ -8,28 +8,28 @@ use tup_proc::LogLine;
 use tup_runner::{Answer, RunFailed, View};
 use tup_stamp::{Stamp, stamp_of};
 
-/// Asks the view for what a log says that its program asked, in order. Whether each answer is what the log says; after
-/// the first that differs nothing is asked.
+/// Asks the view for what a log says that its program asked, in order. Gives the text of the first answer that isn't what the
+/// log says, if there is one; after it nothing is asked.
 pub(crate) fn ask_all<V: View>(
     alloc: Global,
     lines: &[LogLine],
     view: &mut V,
-) -> Result<bool, RunFailed>
+) -> Result<Option<Text>, RunFailed>
     requires { V.refusal view.old ≡ None }
     ensures asked { AsksAs (said_in lines.now)
         (λ asks. V.came view.old asks view.new) (V.refusal view.new) result }
     ensures same { V.same view.old view.new }
 {
     for line in lines {
-        if !ask(alloc, line, view)? {
-            return Ok(false);
+        if let Some(text) = ask(alloc, line, view)? {
+            return Ok(Some(text));
         }
     }
-    Ok(true)
+    Ok(None)
 }
 
-/// Asks the view for what one line says that was asked.
-fn ask<V: View>(alloc: Global, line: &LogLine, view: &mut V) -> Result<bool, RunFailed>
+/// Asks the view for what one line says that was asked. Gives its text where the answer isn't what the line says.
+fn ask<V: View>(alloc: Global, line: &LogLine, view: &mut V) -> Result<Option<Text>, RunFailed>
     requires { V.refusal view.old ≡ None }
     ensures asked { AsksAs (said_by line.now)
         (λ asks. V.came view.old asks view.new) (V.refusal view.new) result }
@@ -38,24 +38,27 @@ fn ask<V: View>(alloc: Global, line: &LogLine, view: &mut V) -> Result<bool, Run
     match line {
         LogLine::Read { stamp, text } => answered(alloc, text, Some(*stamp), view),
         LogLine::Absent { text } => answered(alloc, text, None, view),
-        LogLine::Wrote { .. } | LogLine::End { .. } => Ok(true),
+        LogLine::Wrote { .. } | LogLine::End { .. } => Ok(None),
     }
 }
 
-/// Whether the view answers with a content of this stamp, or that nothing is there.
+/// Asks the view for a text. Gives the text where the answer isn't a content of this stamp, or isn't that nothing is there.
 fn answered<V: View>(
     alloc: Global,
     text: &Text,
     stamp: Option<Stamp>,
     view: &mut V,
-) -> Result<bool, RunFailed>
+) -> Result<Option<Text>, RunFailed>
     requires { V.refusal view.old ≡ None }
     ensures asked { AsksAs ((text.now, stamp) ∷ [])
         (λ asks. V.came view.old asks view.new) (V.refusal view.new) result }
     ensures same { V.same view.old view.new }
 {
     let answer = view.ask(alloc, text)?;
-    Ok(fits(&answer, stamp))
+    if fits(&answer, stamp) {
+        return Ok(None);
+    }
+    Ok(Some(text.clone()?))
 }
 
 /// Whether this was found.

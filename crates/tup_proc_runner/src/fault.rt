@@ -5,23 +5,28 @@ use std::alloc::{AllocError, AllocFailed};
 use std::io;
 use std::io::ErrorKind;
 use thiserror::Error;
+use tup_path::Text;
 
 /// Why a started program gave no run.
-#[derive(Clone, Copy, Debug, PartialEq, Eq, Error)]
+#[derive(Debug, Drop, Error)]
 pub enum ProcFault {
     /// The program couldn't be started or waited for.
     #[error("the program couldn't be started")]
     NotStarted,
-    /// There is no log, it doesn't read, it names a file that isn't there, or the files have other contents than it says.
+    /// There is no log, it doesn't read, or it names what the program wrote in a file that isn't there.
     #[error("the program's log is bad")]
     BadLog,
+    /// The log says that the program found another content at this place than the view answers, or only one of the two found
+    /// anything. Either somebody changed the file, or the log is bad: which it was can't be told.
+    #[error("{place}: it isn't as the program found it: it was changed while tup ran, or the program's log is bad")]
+    Differs { place: Text },
     /// A file of the stage couldn't be made or read, or what the program printed couldn't be kept.
     #[error("the stage couldn't be made or read")]
     NoStage,
 }
 
 /// Why something of a run wasn't done.
-#[derive(Clone, Copy)]
+#[derive(Drop)]
 pub(crate) enum Refused {
     Memory,
     Fault(ProcFault),

@@ -1,15 +1,19 @@
 //! The runner that starts a program for each command.
 ghost use Rattle.std.specs.Prelude.{◌≡◌, ◌∷◌, ◌++◌, [], Some, None, Ok, Err, IfOk, IfErr, OnOk};
+ghost use Rattle.std.specs.Option.{option_copied};
 ghost use Rattle.std.specs.Process.{command_program, command_args};
 ghost use Rattle.tup_path.specs.Show.{show};
 ghost use Rattle.tup_runner.specs.Run.{CountsFaults};
 ghost use Rattle.tup_proc.specs.Log.{IsLog};
 ghost use Rattle.tup_proc_runner.specs.declared.fault.ProcFault.{ProcFault as FaultValue};
 ghost use Rattle.tup_proc_runner.specs.Asked.{IsOwn};
+ghost use Rattle.tup_proc_runner.specs.Refused.{IsMemoryOr, IsOfStart};
+ghost use Rattle.tup_proc_runner.specs.Told as specs;
 ghost use Rattle.tup_proc_runner.specs.Told.{FollowsLog};
 
 use crate::asking::ask_all;
 use crate::fault::{ProcFault, Refused};
+use crate::place::place_of;
 use crate::printed::Printing;
 use crate::stage::Stage;
 use crate::stages::Stages;
@@ -67,10 +71,10 @@ impl<R: Files<File = File> + Processes + Clone + Drop> ProcRunner<R> {
     }
 
     /// The last fault. `None` where there was none yet.
-    pub fn last(&self) -> Option<ProcFault>
-        ensures { result ≡ self.now.last }
+    pub fn last(&self) -> Option<&ProcFault>
+        ensures { option_copied result ≡ self.now.last }
     {
-        self.last
+        self.last.as_ref()
     }
 
     /// Runs the program, and gives the lines of its log.
@@ -82,6 +86,7 @@ impl<R: Files<File = File> + Processes + Clone + Drop> ProcRunner<R> {
         own: &[Path],
     ) -> Result<Items<LogLine>, Refused>
         ensures log { IfOk result IsLog }
+        ensures refused { IfErr result IsOfStart }
         ensures uncounted { self.new.faults ≡ self.old.faults }
     {
         self.stage.prepare(alloc, own)?;
@@ -131,21 +136,33 @@ impl<R: Files<File = File> + Processes + Clone + Drop> ProcRunner<R> {
     fn follow<V: View>(
         &mut self,
         alloc: Global,
+        dir: &Path,
         lines: &[LogLine],
         view: &mut V,
     ) -> Result<Ended, RunFailed>
         requires log { IsLog lines.now }
         requires granted { V.refusal view.old ≡ None }
-        ensures log { FollowsLog lines.now
+        ensures log { FollowsLog lines.now (specs.place_of self.old.root dir.now)
             (λ asks. V.came view.old asks view.new) (V.refusal view.new) self.new.last result }
         ensures cause { CountsFaults self.old.faults self.new.faults result }
         ensures same { V.same view.old view.new }
     {
-        if !ask_all(alloc, lines, view)? {
-            return self.told(Err(Refused::Fault(ProcFault::BadLog)));
+        if let Some(text) = ask_all(alloc, lines, view)? {
+            let refused = self.differs(alloc, dir, &text);
+            return self.told(Err(refused));
         }
         let ended = self.stage.ended(alloc, lines);
         self.told(ended)
+    }
+
+    /// The fault where what a log says of this text isn't what the view answers.
+    fn differs(&self, alloc: Global, dir: &Path, text: &Text) -> Refused
+        ensures { IsMemoryOr (ProcFault.Differs (specs.place_of self.now.root dir.now text.now)) result }
+    {
+        match place_of(alloc, &self.root, dir, text) {
+            Ok(place) => Refused::Fault(ProcFault::Differs { place }),
+            Err(_) => Refused::Memory,
+        }
     }
 
     /// An answer as the runner gives it. Each fault is counted and kept.
@@ -153,6 +170,8 @@ impl<R: Files<File = File> + Processes + Clone + Drop> ProcRunner<R> {
         ensures cause { CountsFaults self.old.faults self.new.faults result }
         ensures own { IfErr result IsOwn }
         ensures value { IfOk result (λ value. answer ≡ Ok value) }
+        ensures done { IfOk answer (λ value. result ≡ Ok value) }
+        ensures memory { answer ≡ Err Refused.Memory → result ≡ Err RunFailed.Memory }
         ensures named { (fault : FaultValue) → answer ≡ Err (Refused.Fault fault)
             → self.new.last ≡ Some fault }
     {
@@ -191,7 +210,7 @@ impl<R: Files<File = File> + Processes + Clone + Drop + Send> Runner for ProcRun
     ) -> Result<Ended, RunFailed> {
         let started = self.start(alloc, dir, text, view.own());
         let lines = self.told(started)?;
-        self.follow(alloc, lines.as_slice(), view)
+        self.follow(alloc, dir, lines.as_slice(), view)
     }
 
     fn faults(&self) -> u64 {

@@ -2,7 +2,7 @@
 ghost use Rattle.std.specs.Prelude.{◌≡◌, ◌+◌, ◌%◌, ◌^◌, ◌++◌, ◌∷◌, [], IfOk, IfErr, OnOk, string_bytes};
 ghost use Rattle.tup_path.specs.Show.{show};
 ghost use Rattle.tup_proc.specs.Log.{IsLog};
-ghost use Rattle.tup_proc_runner.specs.Refused.{IsMemoryOr};
+ghost use Rattle.tup_proc_runner.specs.Refused.{IsMemoryOr, IsOfRead};
 ghost use Rattle.tup_proc_runner.specs.Stages.{stage_of};
 ghost use Rattle.tup_proc_runner.specs.Told.{told_in, told_of, texts_of, with_line, list_of};
 
@@ -69,7 +69,8 @@ impl<R: Files<File = File> + Processes + Clone + Drop> Stage<R> {
 
     /// The lines of the log that the program left.
     pub(crate) fn log(&self, alloc: Global) -> Result<Items<LogLine>, Refused>
-        ensures { IfOk result IsLog }
+        ensures log { IfOk result IsLog }
+        ensures refused { IfErr result IsOfRead }
     {
         let bytes = self.read(alloc, "log")?;
         match read_log(alloc, &bytes) {
@@ -81,7 +82,8 @@ impl<R: Files<File = File> + Processes + Clone + Drop> Stage<R> {
 
     /// How the program ended, and what it wrote.
     pub(crate) fn ended(&self, alloc: Global, lines: &[LogLine]) -> Result<Ended, Refused>
-        ensures { IfOk result (λ ended. told_of ended ≡ told_in lines.now) }
+        ensures told { IfOk result (λ ended. told_of ended ≡ told_in lines.now) }
+        ensures refused { IfErr result IsOfRead }
     {
         let mut ended = Ended {
             status: 0,
@@ -95,7 +97,8 @@ impl<R: Files<File = File> + Processes + Clone + Drop> Stage<R> {
 
     /// Adds what a line says of it.
     fn add(&self, alloc: Global, ended: &mut Ended, line: &LogLine) -> Result<(), Refused>
-        ensures { OnOk result (told_of ended.new ≡ with_line (told_of ended.old) line.now) }
+        ensures told { OnOk result (told_of ended.new ≡ with_line (told_of ended.old) line.now) }
+        ensures refused { IfErr result IsOfRead }
     {
         match line {
             LogLine::Wrote { file, text } => self.take(alloc, &mut ended.writes, *file, text),
@@ -115,7 +118,8 @@ impl<R: Files<File = File> + Processes + Clone + Drop> Stage<R> {
         file: u32,
         text: &Text,
     ) -> Result<(), Refused>
-        ensures { OnOk result (texts_of writes.new ≡ texts_of writes.old ++ text.now ∷ []) }
+        ensures texts { OnOk result (texts_of writes.new ≡ texts_of writes.old ++ text.now ∷ []) }
+        ensures refused { IfErr result IsOfRead }
     {
         let content = self.written(alloc, file)?;
         add_write(writes, text, content)?;
@@ -123,13 +127,17 @@ impl<R: Files<File = File> + Processes + Clone + Drop> Stage<R> {
     }
 
     /// The content of a write.
-    fn written(&self, alloc: Global, file: u32) -> Result<Bytes, Refused> {
+    fn written(&self, alloc: Global, file: u32) -> Result<Bytes, Refused>
+        ensures { IfErr result IsOfRead }
+    {
         let name = format!(in alloc; "w{file}")?;
         Ok(Bytes::new(self.read(alloc, name.as_str())?))
     }
 
     /// What a file of the stage holds. The program should have left it: one that isn't there is a bad log.
-    fn read(&self, alloc: Global, name: &str) -> Result<Vec<u8>, Refused> {
+    fn read(&self, alloc: Global, name: &str) -> Result<Vec<u8>, Refused>
+        ensures { IfErr result IsOfRead }
+    {
         let place = self.place(alloc, name)?;
         let mut bytes = Vec::new(alloc);
         match self.read_into(&mut bytes, place.as_str()) {
