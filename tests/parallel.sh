@@ -178,6 +178,18 @@ begin 'a command that leaves something running' ': a |> x a b |> b'
 program 'echo now; (sleep 30; echo late) &'
 call 0 20
 said now
+# what goes on printing is cut off, and all that the command itself printed is kept
+printing() {
+    begin "a command that leaves running what prints $1" ': a |> x a b |> b'
+    program "$2" 'echo $! > "$seen/left"; head -c 60000 /dev/zero | tr "\\0" b; echo; echo last'
+    call 0 20
+    kill "$(cat ../seen/left)" 2> /dev/null
+    [ "$(tr -cd b < ../said | wc -c)" = 60000 ] || wrong "of what the command printed it says $(tr -cd b < ../said | wc -c) bytes"
+    grep -q 'last$' ../said || wrong "it says none of the command's last words"
+    [ "$(wc -c < ../said)" -lt "$3" ] || wrong "it says $(wc -c < ../said) bytes"
+}
+printing 'at times' '(while :; do echo x; sleep 0.05; done) &' 60200
+printing 'without a pause' '(while :; do echo x; done) &' 50000000
 begin 'commands that print 100 MB each' ': a |> x a b |> b' ': a |> x a c |> c'
 program 'head -c 100000000 /dev/zero | tr "\\0" "$output"'
 "$tup" -j 2 > ../told 2> ../said &

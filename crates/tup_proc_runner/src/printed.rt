@@ -18,8 +18,12 @@ use std::process::{Child, Command, OpenProcess, Processes};
 use std::rt::Files;
 use tup_path::Text;
 
-/// For how many milliseconds nothing is printed before it is looked whether the program has ended.
+/// For how many milliseconds what is printed is waited for at once.
 const PATIENCE: i32 = 100;
+
+/// How often is taken what comes once the program has ended. A pipe holds 64 KB, which eight times take: so all that the
+/// program itself printed is kept.
+const LATE: u32 = 16;
 
 /// Where what the programs of a runner print goes.
 #[derive(Drop)]
@@ -127,18 +131,39 @@ impl<R: Files<File = File> + Processes> Printed<'_, R> {
     }
 
     /// Keeps what comes until the program and all that it has left running have closed the pipe, or the program has ended and
-    /// the others are silent.
+    /// the others are silent for a while or have gone on for long.
     fn keep<P: OpenProcess>(
         &mut self,
         child: &mut Child<P>,
         mut reader: PipeReader,
     ) -> io::Result<()> {
+        if self.keep_all(child, &mut reader)? {
+            self.keep_late(&mut reader)?;
+        }
+        Ok(())
+    }
+
+    /// Keeps what comes while the program runs; returns whether more may come.
+    fn keep_all<P: OpenProcess>(
+        &mut self,
+        child: &mut Child<P>,
+        reader: &mut PipeReader,
+    ) -> io::Result<bool> {
         for _ in 0..u64::MAX {
-            if has_come(&reader) {
-                if !self.take(&mut reader)? {
-                    return Ok(());
-                }
-            } else if has_ended(child) {
+            if has_ended(child) {
+                return Ok(true);
+            }
+            if has_come(reader) && !self.take(reader)? {
+                return Ok(false);
+            }
+        }
+        Ok(true)
+    }
+
+    /// Keeps what comes behind the end of the program: what it left in the pipe, and what others print.
+    fn keep_late(&mut self, reader: &mut PipeReader) -> io::Result<()> {
+        for _ in 0..LATE {
+            if !has_come(reader) || !self.take(reader)? {
                 return Ok(());
             }
         }
