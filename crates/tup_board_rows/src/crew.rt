@@ -35,6 +35,14 @@ struct Left {
     files: Files,
 }
 
+/// A project whose board crews drain, and what one runner leaves of it.
+#[derive(Drop)]
+struct Case {
+    project: Project,
+    keep_going: bool,
+    alone: Left,
+}
+
 /// Has crews of several sizes drain the boards of a project whose rules are all Good, and of one with bad rules among them.
 pub(crate) fn try_crews<W: Threads + Wait + Sync>(
     rt: &W,
@@ -44,74 +52,123 @@ pub(crate) fn try_crews<W: Threads + Wait + Sync>(
         boards: 0,
         differ: 0,
     };
-    try_sizes(rt, alloc, &compiled(alloc), false, &mut tried)?;
-    try_sizes(rt, alloc, &mixed(alloc), true, &mut tried)?;
-    Ok(tried)
+    match try_both(rt, alloc, &mut tried) {
+        Ok(()) => Ok(tried),
+        Err(fault) => Err(fault),
+    }
+}
+
+fn try_both<W: Threads + Wait + Sync>(
+    rt: &W,
+    alloc: Global,
+    tried: &mut Tried,
+) -> Result<(), RowFault> {
+    try_project(rt, alloc, compiled(alloc), false, tried)?;
+    try_project(rt, alloc, mixed(alloc), true, tried)
+}
+
+/// One runner drains the board of a project, and then crews do.
+fn try_project<W: Threads + Wait + Sync>(
+    rt: &W,
+    alloc: Global,
+    project: Project,
+    keep_going: bool,
+    tried: &mut Tried,
+) -> Result<(), RowFault> {
+    match left_by_one(alloc, &project, keep_going) {
+        Ok(alone) => {
+            let case = Case {
+                project,
+                keep_going,
+                alone,
+            };
+            try_case(rt, alloc, case, tried)
+        }
+        Err(fault) => {
+            drop(project);
+            Err(fault)
+        }
+    }
+}
+
+fn try_case<W: Threads + Wait + Sync>(
+    rt: &W,
+    alloc: Global,
+    case: Case,
+    tried: &mut Tried,
+) -> Result<(), RowFault> {
+    let done = try_sizes(rt, alloc, &case, tried);
+    drop(case);
+    done
 }
 
 /// Crews of these sizes drain the board of a project.
 fn try_sizes<W: Threads + Wait + Sync>(
     rt: &W,
     alloc: Global,
-    project: &Project,
-    keep_going: bool,
+    case: &Case,
     tried: &mut Tried,
 ) -> Result<(), RowFault> {
-    try_size(rt, alloc, project, keep_going, 1, tried)?;
-    try_size(rt, alloc, project, keep_going, 2, tried)?;
-    try_size(rt, alloc, project, keep_going, 4, tried)?;
-    try_size(rt, alloc, project, keep_going, 16, tried)
+    try_size(rt, alloc, case, 1, tried)?;
+    try_size(rt, alloc, case, 2, tried)?;
+    try_size(rt, alloc, case, 4, tried)?;
+    try_size(rt, alloc, case, 16, tried)
 }
 
 /// A crew of this size drains the board of a project.
 fn try_size<W: Threads + Wait + Sync>(
     rt: &W,
     alloc: Global,
-    project: &Project,
-    keep_going: bool,
+    case: &Case,
     count: u32,
     tried: &mut Tried,
 ) -> Result<(), RowFault>
     requires { (0 < count) × (count ≤ 16) }
 {
-    let alone = left_by_one(alloc, project, keep_going)?;
-    let crewed = left_by(rt, alloc, project, keep_going, count)?;
+    match left_by(rt, alloc, &case.project, case.keep_going, count) {
+        Ok(other) => {
+            note_board(tried, are_alike(&case.alone, &other));
+            drop(other);
+            Ok(())
+        }
+        Err(fault) => Err(fault),
+    }
+}
+
+/// Counts a board that a crew drained.
+fn note_board(tried: &mut Tried, is_alike: bool) {
     tried.boards = tried.boards.saturating_add(1);
-    if !are_alike(&alone, &crewed) {
+    if !is_alike {
         tried.differ = tried.differ.saturating_add(1);
     }
-    Ok(())
 }
 
 fn are_alike(one: &Left, other: &Left) -> bool {
     one.words.as_slice() == other.words.as_slice() && one.files == other.files
 }
 
-/// The site of a project at the opening of an update that runs all its rules.
-fn opened(alloc: Global, project: &Project) -> Result<MemSite, RowFault> {
-    let mut reach = Vec::new(alloc);
-    for (_, number) in project.rules.as_slice().iter().zip(0..u32::MAX) {
-        let Ok(()) = reach.push(number) else {
-            return Err(RowFault::Memory);
-        };
-    }
-    Ok(site_of(alloc, project, reach.as_slice())?.into_site())
-}
-
 /// What an update by one runner leaves.
 fn left_by_one(alloc: Global, project: &Project, keep_going: bool) -> Result<Left, RowFault> {
-    let site = opened(alloc, project)?;
-    match board_over(alloc, site, keep_going) {
-        Ok((board, plan)) => drained(alloc, board, &plan),
+    match opened(alloc, project) {
+        Ok(site) => left_over(alloc, site, keep_going),
         Err(fault) => Err(fault),
     }
 }
 
-fn drained(alloc: Global, mut board: Board<MemSite, Mini>, plan: &Plan) -> Result<Left, RowFault>
-    requires plan { plan.now ≡ plan_of board }
+/// The same over a site.
+fn left_over(alloc: Global, site: MemSite, keep_going: bool) -> Result<Left, RowFault> {
+    match board_over(alloc, site, keep_going) {
+        Ok((board, plan)) => drained(alloc, board, plan),
+        Err(fault) => Err(fault),
+    }
+}
+
+fn drained(alloc: Global, mut board: Board<MemSite, Mini>, plan: Plan) -> Result<Left, RowFault>
+    requires plan { plan ≡ plan_of board }
     requires none { board.history ≡ [] }
 {
-    let drained = board.drain(alloc, plan, &mut Mini::new(alloc));
+    let drained = board.drain(alloc, &plan, &mut Mini::new(alloc));
+    drop(plan);
     outcome(alloc, drained, board.into_parts())
 }
 
@@ -125,11 +182,43 @@ fn left_by<W: Threads + Wait + Sync>(
 ) -> Result<Left, RowFault>
     requires { (0 < count) × (count ≤ 16) }
 {
-    let site = opened(alloc, project)?;
-    match board_over(alloc, site, keep_going) {
-        Ok((board, plan)) => drained_by(rt, alloc, board, &plan, count),
+    match opened(alloc, project) {
+        Ok(site) => left_over_by(rt, alloc, site, keep_going, count),
         Err(fault) => Err(fault),
     }
+}
+
+/// The same over a site.
+fn left_over_by<W: Threads + Wait + Sync>(
+    rt: &W,
+    alloc: Global,
+    site: MemSite,
+    keep_going: bool,
+    count: u32,
+) -> Result<Left, RowFault>
+    requires { (0 < count) × (count ≤ 16) }
+{
+    match board_over(alloc, site, keep_going) {
+        Ok((board, plan)) => crewed(rt, alloc, board, plan, count),
+        Err(fault) => Err(fault),
+    }
+}
+
+/// The same at a board at which nothing happened yet.
+fn crewed<W: Threads + Wait + Sync>(
+    rt: &W,
+    alloc: Global,
+    board: Board<MemSite, Mini>,
+    plan: Plan,
+    count: u32,
+) -> Result<Left, RowFault>
+    requires plan { plan ≡ plan_of board }
+    requires none { board.history ≡ [] }
+    requires count { (0 < count) × (count ≤ 16) }
+{
+    let found = drained_by(rt, alloc, board, &plan, count);
+    drop(plan);
+    found
 }
 
 fn drained_by<W: Threads + Wait + Sync>(
@@ -153,7 +242,12 @@ fn drained_by<W: Threads + Wait + Sync>(
 }
 
 fn left_of(alloc: Global, drainings: Drainings<MemSite, Mini>) -> Result<Left, RowFault> {
-    let Drainings { board, drained, .. } = drainings;
+    let Drainings {
+        board,
+        crew,
+        drained,
+    } = drainings;
+    drop(crew);
     outcome(alloc, drained, board.into_parts())
 }
 
@@ -176,10 +270,38 @@ fn outcome(
     drained: Drained,
     mut parts: BoardParts<MemSite>,
 ) -> Result<Left, RowFault> {
+    let found = left_in(alloc, drained, &mut parts);
+    drop(parts);
+    found
+}
+
+fn left_in(
+    alloc: Global,
+    drained: Drained,
+    parts: &mut BoardParts<MemSite>,
+) -> Result<Left, RowFault> {
+    match files_in(alloc, &mut parts.site) {
+        Ok(files) => Ok(Left {
+            words: state_words(alloc, drained, parts),
+            files,
+        }),
+        Err(fault) => Err(fault),
+    }
+}
+
+/// What an update came to, and the state that it left.
+fn state_words(alloc: Global, drained: Drained, parts: &BoardParts<MemSite>) -> Words {
     let mut words = drained_words(alloc, drained);
-    add_state(alloc, &mut words, &parts);
-    let files = files_in(alloc, &mut parts.site)?;
-    Ok(Left { words, files })
+    add_state(alloc, &mut words, parts);
+    words
+}
+
+/// The site of a project of four rules at the opening of an update that runs them all.
+fn opened(alloc: Global, project: &Project) -> Result<MemSite, RowFault> {
+    match site_of(alloc, project, &[0, 1, 2, 3]) {
+        Ok(site) => Ok(site.into_site()),
+        Err(fault) => Err(fault),
+    }
 }
 
 /// Three files are compiled, two of them with a header, and joined.
