@@ -1,23 +1,22 @@
 """The refusals of every public call, each with the clause that says its cause: `make refusals`.
 
 For each crate, in the order of crates.txt, each function and method that it gives to the crates above it and that answers a
-`Result`, or a struct with a status; then each variant of its fault, with the names of the clauses that speak of it. A clause
-speaks of a variant if it, or a definition of specs/ that it cites, or one that this cites, and so on, names it; how many
-definitions lie between is told behind its name. Where none names it, but one says of each refusal which it is, that clause stands
-behind `of each`. An implementation has the clauses of its trait. `Memory` is left out: each call may answer it. So are the crates
-of rows, which promise nothing.
+`Result`, or a struct with a status; then each variant of its fault, with the names of up to three clauses that speak of it: first
+those with `cause` and the like in their names, then the nearest. A clause speaks of a variant if it, or a definition of specs/ that
+it cites, or one that this cites, and so on, names it; the number after its name counts the definitions between. Where none names it,
+but one says of each refusal which it is, that clause comes after `of each`. An implementation has the clauses of its trait.
+`Memory` is left out, as each call may answer it, and so is `Done`. So are the crates of rows, which promise nothing.
 
-With the word `open`, the refusals alone of which no clause speaks. A clause that names a variant may still say too little: this
-finds what was forgotten, no more.
+At the end come the refusals of which no clause speaks; with the word `open` these alone. A clause that names a variant may still
+say too little: this finds what was forgotten, no more.
 """
 import os
 import re
 import sys
-from collections import deque
 
-from promises import BLOCK, CLAUSE, FUNCTION, crates, exported, read, root_of, short_name, sources
+from promises import BLOCK, CLAUSE, FUNCTION, crates, exported, read, root_of, say, short_name, sources
 
-FREE = {'Memory'}
+FREE = {'Memory', 'Done'}
 # What a clause that says of each refusal which it is looks like.
 WHOLE = re.compile(r'(?<!→ )\b(?:MatchResult|GivesUnless|IfErr) result\b|(?<!→ )\bOnErr result \(result ≡|\bresult ≡ (?!Err |Ok \()'
                    r'|^ *ensures(?: \w+)? \{ \(?result ≡ (?:Ok|Err)(?!.*→)|\(Err (?:\([a-z]\w*\)|[a-z]\w*)\) = ', re.M)
@@ -42,7 +41,7 @@ class Specs:
     """The definitions of all crates: what each names."""
 
     def __init__(self, faults):
-        self.files, self.faults = {}, faults
+        self.files, self.faults, self.cites = {}, faults, {}
 
     def file(self, module):
         """The definitions of a module `tup_x.specs.Y`, by name, and what it takes from elsewhere."""
@@ -70,6 +69,13 @@ class Specs:
                 others.add((source, tail if own is None else own))
         return variants, others
 
+    def cited_by(self, module, name):
+        """What a definition names; nothing where there is none of that name."""
+        if (module, name) not in self.cites:
+            known, taken = self.file(module) if '.specs.' in module else ({}, {})
+            self.cites[module, name] = self.cited(module, taken, known.get(name, ''))
+        return self.cites[module, name]
+
     def is_whole(self, module, names, text, depth=5):
         """Whether a text, or a definition that it cites of the result, says of each refusal which it is."""
         if WHOLE.search(text):
@@ -81,17 +87,15 @@ class Specs:
 
     def reached(self, module, names, text):
         """Of each variant that a text leads to, how many definitions lie between."""
-        steps, seen, waiting = {}, set(), deque([(0, module, names, text)])
-        while waiting:
-            depth, module, names, text = waiting.popleft()
-            variants, others = self.cited(module, names, text)
-            for variant in variants:
-                steps.setdefault(variant, depth)
-            for source, name in others - seen:
-                seen.add((source, name))
-                known, taken = self.file(source) if '.specs.' in source else ({}, {})
-                if name in known:
-                    waiting.append((depth + 1, source, taken, known[name]))
+        variants, waiting = self.cited(module, names, text)
+        steps, seen, depth = {}, set(), 0
+        while variants or waiting:
+            steps = {**dict.fromkeys(variants, depth), **steps}
+            seen |= waiting
+            cited = [self.cited_by(*one) for one in waiting]
+            variants = set().union(*(one for one, _ in cited))
+            waiting = set().union(*(others for _, others in cited)) - seen
+            depth += 1
         return steps
 
 
@@ -110,7 +114,8 @@ def definitions(text):
 
 
 class Faults:
-    """The public enums of all crates, each as `tup_x.Fault`; which of them a crate means by a name; which one a struct has."""
+    """The public enums of all crates and their errors without fields, each as `tup_x.Fault`; which of them a crate means by a name;
+    which one a struct has."""
 
     def __init__(self):
         self.variants, self.taken, self.answers = {}, {}, {}
@@ -119,15 +124,19 @@ class Faults:
                 text = read('crates', crate, 'src', name)
                 for fault, body in re.findall(r'^pub(?:\(crate\))? enum (\w+)[^{]*\{(.*?)^\}', text, re.M | re.S):
                     self.variants['%s.%s' % (crate, fault)] = re.findall(r'^    (\w+)', body, re.M)
+                for fault in re.findall(r'^#\[error\(.*\n(?:#.*\n)*pub struct (\w+);', text, re.M):
+                    self.variants['%s.%s' % (crate, fault)] = [fault]
                 for answer, body in re.findall(r'^pub struct (\w+)[^{;]*\{(.*?)^\}', text, re.M | re.S):
-                    for status in re.findall(r'^    pub (?:status|refused): .*?(\w+)\W*$', body, re.M):
+                    for status in re.findall(r'^    pub (?:status|refused|stopped|cause): .*?(\w+)\W*$', body, re.M):
                         self.answers[answer] = status
                 for other, names in re.findall(r'^(?:pub )?use (tup_\w+)::(\{[^}]*\}|\w+);', text, re.M):
                     for fault in re.findall(r'\w+', names):
                         self.taken[crate, fault] = other
 
     def of(self, crate, name):
-        full = '%s.%s' % (self.taken.get((crate, name), crate), name)
+        while (crate, name) in self.taken:
+            crate = self.taken[crate, name]
+        full = '%s.%s' % (crate, name)
         return full if full in self.variants else None
 
 
@@ -166,11 +175,27 @@ def head_of(lines):
     return head, clauses
 
 
-def fault_of(head, answers):
-    """The fault of a function's answer: of a `Result`, or the status of a struct."""
+def words_of(head, answers):
+    """The words in which a function's answer may have its fault: of a `Result` what it refuses with, or the status of a struct."""
     answer = head.partition('->')[2]
-    found = re.search(r'Result<.*?(\w+)(?:<[^<>]*>)?>+', answer)
-    return found.group(1) if found else answers.get(re.split(r'[<{ ]', answer.strip())[0])
+    inside = parts(answer.partition('Result<')[2])
+    if inside:
+        return re.findall(r'\w+', re.sub('<.*>', '', inside[1])) if len(inside) == 2 else []
+    return [answers.get(re.split(r'[<{ ]', answer.strip())[0])]
+
+
+def parts(text):
+    """What stands between the commas of a generic type's brackets, up to the one that closes them."""
+    found, depth = [''], 0
+    for letter in text:
+        depth += (letter in '<(') - (letter in '>)')
+        if depth < 0:
+            return [part.strip() for part in found if part.strip()]
+        if letter == ',' and depth == 0:
+            found.append('')
+        else:
+            found[-1] += letter
+    return []
 
 
 def promises():
@@ -190,7 +215,7 @@ def calls():
     specs, shown = Specs(faults), {crate: exported(root_of(crate)) for crate in crates()}
     of_traits = {(block, function): clauses for _, block, function, _, clauses in promises() if ' for ' not in block}
     for crate, block, function, head, clauses in promises():
-        fault = faults.of(crate, fault_of(head, faults.answers))
+        fault = next(filter(None, (faults.of(crate, word) for word in words_of(head, faults.answers))), None)
         is_private = ' for ' in block and not clauses and (block.split(' for ')[0], function) not in of_traits
         if fault and not is_private and shown[crate] & set(re.findall(r'\w+', block or function)):
             clauses = {**of_traits.get((block.split(' for ')[0], function), {}), **clauses}
@@ -198,28 +223,49 @@ def calls():
 
 
 def refusals(specs, fault, clauses):
-    """Of each variant the clauses that speak of it, the nearest first, or those that say of each which it is."""
+    """Of each variant the clauses that speak of it, or those that say of each which it is."""
     steps = {clause: specs.reached('%s.src' % crate, taken, body) for clause, (crate, taken, body) in clauses.items()}
     whole = [(0, 'of each: ' + clause) for clause, (crate, taken, body) in clauses.items()
              if specs.is_whole('%s.src' % crate, taken, body)]
-    return {variant: sorted((step[name], clause) for clause, step in steps.items() if name in step) or whole
+    return {variant: sorted(((step[name], clause) for clause, step in steps.items() if name in step), key=by_cause) or whole
             for variant in specs.faults.variants[fault] if variant not in FREE for name in ['%s.%s' % (fault, variant)]}
 
 
-def main(words):
-    last, count, unnamed = None, 0, 0
-    for crate, call, fault, refusals in calls():
+def by_cause(named):
+    """A clause whose name says that it has causes comes first, then the nearest."""
+    depth, clause = named
+    return not re.search('cause|blame|refuse', clause), depth, clause
+
+
+def show(answered):
+    """Prints each call with its refusals and their clauses."""
+    for crate, call, fault, refusals in answered:
+        if refusals:
+            print('%s, %s' % (crate, call))
         for variant, clauses in refusals.items():
-            count += 1
-            unnamed += not clauses
-            if words == ['open'] and clauses:
-                continue
-            if (crate, call) != last:
-                print('%s, %s' % (crate, call))
-                last = crate, call
             said = ', '.join('%s%s' % (clause, ' %d' % depth if depth else '') for depth, clause in clauses[:3])
-            print('    %s.%s: %s' % (fault, variant, said or 'no clause'))
-    print('%d refusals, %d of which no clause speaks' % (count, unnamed))
+            print('    %s.%s: %s%s' % (fault, variant, said or 'no clause', ' and %d more' % (len(clauses) - 3) if clauses[3:] else ''))
+    print('%d refusals' % sum(len(refusals) for *_, refusals in answered))
+
+
+def unnamed(answered):
+    """Of each crate and refusal, the calls of which no clause says when it comes."""
+    found = {}
+    for crate, call, fault, refusals in answered:
+        for variant, clauses in refusals.items():
+            if not clauses:
+                found.setdefault((crate, '%s.%s' % (fault, variant)), []).append(call.replace(': ', '::'))
+    return found
+
+
+def main(words):
+    answered = list(calls())
+    if words != ['open']:
+        show(answered)
+    left = unnamed(answered)
+    print('No clause says when these %d come:' % sum(map(len, left.values())))
+    for (crate, refusal), names in left.items():
+        say('%s: %s of %s' % (crate, refusal, ', '.join(names)), '    ')
 
 
 if __name__ == '__main__':
