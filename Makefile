@@ -10,7 +10,7 @@ JOBS ?= $(shell nproc)
 TEXTS := crates.txt HANDLES $(shell find crates -name out -prune -o '(' -name '*.rt' -o -name '*.antt' ')' -print)
 VERSION = $(shell sed -n 's/^const VERSION: &str = "\(.*\)";/\1/p' crates/tup/src/main.rt)
 
-.PHONY: help look build runners demo check above promises definitions reach books refusals rows test edits seats try shell real killed model figures figures-crew fmt times tag install uninstall clean
+.PHONY: help look build runners demo check above promises definitions reach books refusals rows test edits seats try examples shell real killed model figures figures-crew fmt times tag install uninstall clean
 
 help:
 	@echo 'make build      proves and builds the program, and has it print its version; JOBS=2 proves two crates at once (else as many as processors)'
@@ -28,6 +28,7 @@ help:
 	@echo 'make edits      the edits that must be refused and that the gate leaves out; CRATES=tup_stamp tries those of that crate alone'
 	@echo 'make seats      tries workers in threads of their own, at a board and in a scan (some minutes; nothing of that is proved)'
 	@echo 'make try        the last part of the gate alone: the program over small projects, full disks, damaged stores'
+	@echo 'make examples   compares what README and USING show at a terminal with what the program prints'
 	@echo 'make shell      runs shell commands under tup_sh, builds examples/c, runs hostile commands and several at a time, clangd and distcc (passed over where there is no strace)'
 	@echo 'make real       builds and edits Lua, zlib, brotli and ninja, fetched from Debian, and compares with clean builds and with ninja (passed over without a network)'
 	@echo 'make killed     fails and kills each system call of an update in turn, stops updates by lot and on a full disk, refuses them memory (fifteen minutes)'
@@ -106,6 +107,9 @@ try: build
 	sh tests/program.sh $(TUP)
 	sh tests/skip.sh $(TUP)
 	sh tests/user.sh $(TUP)
+
+examples: build
+	python3 -B tests/examples.py $(TUP)
 
 shell: build runners
 	sh tests/shell.sh $(SH)
