@@ -5,10 +5,11 @@
 #
 # It ends with 1 where there are more than these for each rule, and 600 beside. Nothing to do: ten, as source and output are each
 # listed with one and read with four. The first update: 27, as its source is listed and read for the rules and read by its command,
-# four make a file of it, six make that and its folder durable, and eight commit, twice, what begins and what ended. Each
-# command another: 32, as the output is listed and read for the rules too, and read in place of being made. Each folder more above
-# a file that is made takes three to be made durable; it is looked at once. Where nothing is to be done no byte is written, and three syncs are made: of the store, of its folder, of the one
-# above. The updates have four runners; their calls of futex, by which they wait for each other, are told beside and in no sum.
+# four make a file of it, six make that and its folder durable, and eight commit, twice, what begins and what ended. Each command
+# another: 32, as the output is listed and read for the rules too, and read in place of being made. Each folder more above a file
+# that is made takes three to be made durable; it is looked at once. Where nothing is to be done no byte is written, and three
+# syncs are made: of the store, of its folder, of the one above. The updates have four runners; their calls of futex and
+# sched_yield, by which they wait for each other, are told beside and in no sum.
 # Word: the program. It is no part of the gate.
 set -u
 tup=$(realpath "$1")
@@ -47,11 +48,11 @@ update() {
         /^p?write(64)?\(.*\/\.tup\/db(\.new)?>/ { bytes += $NF }
         /^f(data)?sync\(/ { syncs++ }
         { sub(/\(.*/, "") }
-        $0 == "futex" { waits++; next }
+        $0 == "futex" || $0 == "sched_yield" { waits++; next }
         { count[$0]++; all++ }
         END {
             for (name in count) if (count[name] >= many) { printf "  %d %s\n", count[name], name; counted += count[name] }
-            printf "  %d others, and %d of futex\n%d system calls, %d bytes to the store, %d syncs\n", all - counted, waits, all, bytes, syncs
+            printf "  %d others, and %d by which threads wait\n%d system calls, %d bytes to the store, %d syncs\n", all - counted, waits, all, bytes, syncs
         }' "$work/trace" | tee "$work/counts"
     read -r all _ _ bytes _ _ _ _ syncs _ << END
 $(tail -1 "$work/counts")

@@ -24,7 +24,7 @@ rules() {
 
 # traced NAME: an update, and its calls in a file of this name, each with the paths of its descriptors.
 traced() {
-    strace -f -y -e 'trace=!%memory,futex' -o "$work/$1.trace" "$tup" > "$work/said"
+    strace -f -y -e 'trace=!%memory,futex,sched_yield' -o "$work/$1.trace" "$tup" > "$work/said"
     sed -i 's/^[0-9]* *//; /^[a-z]/!d' "$work/$1.trace"
 }
 

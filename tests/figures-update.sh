@@ -52,7 +52,7 @@ row() {
     what=$1 edit=$2 files=$3 times=$4
     shift 4
     $edit 0
-    strace -f -y -e 'trace=!%memory,futex' -o "$work/trace" "$@" > "$work/last"
+    strace -f -y -e 'trace=!%memory,futex,sched_yield' -o "$work/trace" "$@" > "$work/last"
     awk '
         { sub(/^[0-9]+ +/, "") }
         /^[a-z]/ { calls++ }

@@ -24,10 +24,12 @@ await() {
 }
 
 # The program of a command. Each run reads the source at its beginning, and ends once it may. The first leaves all at its end, the
-# others what they wrote at their beginning. Word: where it writes, in terms of its own words.
+# others what they wrote at their beginning. It prints nothing, as that would kill it: who reads its pipe is dead. Word: where it
+# writes, in terms of its own words.
 program() {
     cat > ../program <<END
 #!/bin/sh
+exec > /dev/null 2>&1
 here=\$PWD
 read -r turn < "$work/turn"
 source=\$(echo "\$4" | cut -d ' ' -f 2)

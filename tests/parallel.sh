@@ -59,7 +59,7 @@ last 'done: 1 read, 2 run, 0 removed'
 call 0 20 -j 2
 last 'done: 0 read, 0 run, 0 removed'
 rm -r ../seen && mkdir ../seen && echo ho > a
-call 8 20 -j 1
+call 8 60 -j 1
 last 'fault: the runner failed'
 
 # how many run at a time: each makes a file while it runs, and counts those of all, until one has counted so many
