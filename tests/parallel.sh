@@ -62,6 +62,13 @@ rm -r ../seen && mkdir ../seen && echo ho > a
 call 8 60 -j 1
 last 'fault: the runner failed'
 
+# the first one ends after the second: the log has both begins before the ends
+begin 'the log of two commands that wait for each other' ': a |> x a b |> b' ': a |> x a c |> c'
+program "$wait_for" ': > "$seen/$output"; await "$seen/b"; await "$seen/c"; [ "$output" = c ] || await "$root/c"'
+call 0 20 --log -j 2
+log='read .;started .: x a b;started .: x a c;ended .: x a c: good;ended .: x a b: good;'
+[ "$(tr '\n' ';' < ../said)" = "$log" ] || wrong "it logs $(tr '\n' ';' < ../said)"
+
 # how many run at a time: each makes a file while it runs, and counts those of all, until one has counted so many
 counting() {
     program 'mkdir "$seen/$output.now"' \

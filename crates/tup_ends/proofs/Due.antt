@@ -54,6 +54,10 @@ asked_names w rules (g, mine, (readings, outcome, linked)) = linked_names readin
 one_number : (rules : List Rule) → HaveOwnNames rules → (number other : ℕ) (name : RuleName) → HasName rules number name → HasName rules other name → number ≡ other
 one_number rules own number other name (rule, here, named) (same, there, called) = own number other rule same here there (named ∙ sym called)
 
+-- so a name is that of one of the rules that are asked for
+pub asked_number : (w : World) (rules : List Rule) → AsksFor w rules → (number other : ℕ) (name : RuleName) → HasName rules number name → HasName rules other name → number ≡ other
+asked_number w rules asks = one_number rules (asked_names w rules asks)
+
 one_name : (rules : List Rule) (number : ℕ) (name other : RuleName) → HasName rules number name → HasName rules number other → name ≡ other
 one_name rules number name other (rule, here, named) (same, there, called) = sym named ∙ ap name_of (same_Some rule same (sym here ∙ there)) ∙ called
 

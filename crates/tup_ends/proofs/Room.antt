@@ -8,6 +8,7 @@ use Rattle.tup_site.specs.declared.site.Site.{Ghosts as Site}
 use Rattle.tup_rule.specs.Rule.{name_of}
 use Rattle.tup_rule.specs.declared.rule.Rule.{Rule}
 use Rattle.tup_rule.specs.declared.rule.RuleName.{RuleName}
+use Rattle.tup_runner.specs.Next.{Next}
 use Rattle.tup_runner.specs.declared.runner.Runner.{Ghosts as Runner}
 use Rattle.tup_table.specs.Entries.{Standing}
 use Rattle.tup_table.proofs.Appends.{rests_store}
@@ -35,9 +36,11 @@ use Rattle.tup_board.specs.Sound.{IsSound, Since}
 use Rattle.tup_board.proofs.Seated.{orderly}
 use Rattle.tup_law_site.proofs.Stores.{in_bytes, one_in_bytes}
 use Rattle.tup_law_board.proofs.Runs.{run_behind, run_front}
+use Rattle.tup_promise.specs.Kept.{AsksFor}
+use Rattle.tup_promise.specs.Prepared.{IsPrepared}
 use Rattle.tup_promise.specs.Ran.{command_of}
 use Rattle.tup_ends.specs.Room.{AreOfRun, IsRunOf, LacksRoomToRun}
-use Rattle.tup_ends.proofs.Due.{among_ran}
+use Rattle.tup_ends.proofs.Due.{among_ran, asked}
 
 -- as much is recorded as was asked
 as_many : (dir : Names) (asks : List (List ℕ × Option Stamp)) (noted : List (Names × Option Stamp)) → AreRecorded dir asks noted → length noted ≡ length asks
@@ -60,7 +63,7 @@ graph_in graph bytes stands = record {
 }
 
 module _ {S R : Type 0} (site : Site S) (runner : Runner R) (b : BoardState S) (sound : IsSound site runner b) (tells : IsTrue site.tells) (ran : List RuleName) (same : map command_of ran ≡ commands (plan_of b) b.history)
-    (w : World) (left : Since site b w) (none : HasNoRoom b w.store) where
+    (next : Next) (first : World) (since : ℕ) (prepared : IsPrepared site next first since b.opening.graph b.opening.site) (w : World) (left : Since site b w) (none : HasNoRoom b w.store) where
   abbrev plan : Plan
   plan = plan_of b
 
@@ -112,21 +115,22 @@ module _ {S R : Type 0} (site : Site S) (runner : Runner R) (b : BoardState S) (
     writes = none.kept.writes;
   }
 
-  pub lacks_room : LacksRoomToRun w ran
+  pub lacks_room : LacksRoomToRun first w ran
   lacks_room = elim none.full [
-    | inl first ↦ lacks (begin_edits nodes none.number) (inl refl) first
-    | inr last ↦ lacks (finish_edits nodes none.number none.run) (inr (none.run, is_run, refl)) last
+    | inl begins ↦ lacks (begin_edits nodes none.number) (inl refl) begins
+    | inr ends ↦ lacks (finish_edits nodes none.number none.run) (inr (none.run, is_run, refl)) ends
   ]
     where
-      lacks : (edits : List Edit) → AreOfRun nodes none.number rule edits → IsFull none.graph edits → LacksRoomToRun w ran
-      lacks edits next full = record {
+      lacks : (edits : List Edit) → AreOfRun nodes none.number rule edits → IsFull none.graph edits → LacksRoomToRun first w ran
+      lacks edits of_run full = record {
         graph = none.graph;
         stands = none.stands;
+        asked = subst (AsksFor first) (sym rules_are) (asked site runner b sound ran same next first since prepared);
         number = none.number;
         rule = rule;
         here = in_graph;
         was_run = among_ran site runner b sound ran same none.number (name_of rule) claimed (rule, here, refl);
         edits = edits;
-        next = next;
+        next = of_run;
         full = full;
       }

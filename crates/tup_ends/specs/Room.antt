@@ -15,6 +15,7 @@ use Rattle.tup_graph.specs.declared.edit.Edit.{Edit}
 use Rattle.tup_stored_graph.specs.Held.{Held}
 use Rattle.tup_stored_graph.specs.Transaction.{IsFull}
 use Rattle.tup_board.specs.Cause.{StandsForBytes}
+use Rattle.tup_promise.specs.Kept.{AsksFor}
 
 -- what a store may be told of a run of a rule: no more than 4,095 paths that its command asked for, and a stamp of each output
 pub record IsRunOf (rule : Rule) (run : RunRecord) : Type 0 where
@@ -25,10 +26,12 @@ pub record IsRunOf (rule : Rule) (run : RunRecord) : Type 0 where
 abbrev pub AreOfRun : GraphState → ℕ → Rule → List Edit → Type 0
 AreOfRun g number rule edits = (edits ≡ begin_edits g number) ⊎ ((run : RunRecord) × IsRunOf rule run × (edits ≡ finish_edits g number run))
 
--- the store of a world is that of a graph, and has no room for what the run of one of its rules commits, whose command was run
-pub record LacksRoomToRun (w : World) (ran : List RuleName) : Type 0 where
+-- The store of a world is that of a graph whose rules are those that the sources of the first world ask for, and has no room for what
+-- the run of one of them commits, whose command was run.
+pub record LacksRoomToRun (first w : World) (ran : List RuleName) : Type 0 where
   pub graph : Held
   pub stands : StandsForBytes graph w.store
+  pub asked : AsksFor first graph.nodes.rules
   pub number : ℕ
   pub rule : Rule
   pub here : IsRuleAt graph.nodes number rule

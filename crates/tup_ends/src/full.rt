@@ -13,15 +13,16 @@ ghost use Rattle.tup_ends.specs.Room.{LacksRoomToRun};
 use tup_runner::Runner;
 use tup_site::Site;
 
-/// A law: where a board is stopped because the store is full, a store that a crash since the beginning may leave lacks room for
-/// what the run of a rule commits whose command was run, where the board was made once the graph was up to date.
+/// A law: where a board is stopped because the store is full, a store of the rules that the sources ask for, which a crash since
+/// the beginning may leave, lacks room for what the run of a rule commits whose command was run, where the board was made once
+/// the graph was up to date.
 pub fn full_is_true<S: Site, R: Runner>(site: &S, runner: &R)
     ensures { (board : BoardState S) (first : World) (since : ℕ) (ran : List RuleName)
         → IsTrue S.tells → IsSound S.Site.own R.Runner.own board
         → IsPrepared S.Site.own R.next first since board.opening.graph board.opening.site
         → map command_of ran ≡ commands (plan_of board) board.history
         → (state board).stopped ≡ Some Full
-        → (w : World) × S.left_since board.site since w × LacksRoomToRun w ran }
+        → (w : World) × S.left_since board.site since w × LacksRoomToRun first w ran }
 {
     let _ = site;
     let _ = runner;

@@ -4,4 +4,6 @@ pub mod Deeds
 pub mod Runs
 pub mod Stays
 pub mod Told
+pub mod Logged
+mod Telling
 pub mod Starting

@@ -46,7 +46,9 @@ stands_itself : (stands : Standing) → StandsAs stands stands
 stands_itself stands = record {
   site = record { world = refl; changes = refl; beside = record { first = refl; calls = refl; faults = refl; fails = refl; left = refl } };
   runners = refl;
+  commands = refl;
   sink = refl;
+  held = refl;
 }
 
 -- where there was no room for the ends

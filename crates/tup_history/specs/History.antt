@@ -1,11 +1,14 @@
 -- A history of a project: edits, crashes and runs of the program, one after another. Own.
 use Rattle.std.specs.Prelude.{◌≡◌, ◌⊎◌, ⊤, Bool, IsTrue, ℕ, List, [], ◌∷◌, length, take, map, Option, None, Some, slice_get}
+use Rattle.tup_path.specs.Name.{Names}
 use Rattle.tup_site.specs.Memory.{world_in, moment_of, left_since, faults_of, left_of}
 use Rattle.tup_site.specs.declared.choice.Deed.{Deed as ADeed}
 use Rattle.tup_site.specs.declared.memory.MemSite.{MemSite}
 use Rattle.tup_site.specs.declared.refused.MemRefused.{MemRefused}
 use Rattle.tup_site.specs.declared.refused.MemRefused.TheVariants.{Memory}
 use Rattle.tup_runner.specs.Next.{Next}
+use Rattle.tup_runner.specs.declared.runner.Runner.{Ghosts as Runner}
+use Rattle.tup_tell.specs.declared.sink.Sink.{Ghosts as Sink}
 use Rattle.tup_top.specs.Order.{BringsUp, order}
 use Rattle.tup_top.specs.Promise.{Counts}
 use Rattle.tup_top.specs.declared.order.Word.{Word}
@@ -14,19 +17,29 @@ use Rattle.tup_history.specs.Chain.{Leads}
 use Rattle.tup_history.specs.Kept.{IsKept}
 use Rattle.tup_history.specs.Deed.{IsCarriedOut, IsUntouched, Refuses}
 use Rattle.tup_history.specs.Run.{SaysDone, Keeps, Leaves, Updates, Lets, left_then, left_behind}
+use Rattle.tup_history.specs.Telling.{HasPrinted, HasRun, told_by}
 use Rattle.tup_history.specs.declared.turn.Turn.{Turn}
 use Rattle.tup_history.specs.declared.turn.Turn.TheVariants.{Deed, Run}
 use Rattle.tup_history.specs.declared.turn.End.{End}
 
--- how a project stands between two turns: its site, and how often each runner and the sink have failed so far
+-- How a project stands between two turns: its site, and how often each runner and the sink have failed so far. Where the runners tell it,
+-- it has what each of them was given to run, and where the sink tells it, what that holds.
 pub record Standing : Type 0 where
   pub site : MemSite
   pub runners : List ℕ
+  pub commands : Option (List (List (Names × List ℕ)))
   pub sink : ℕ
+  pub held : Option (List ℕ)
 
 -- that of a site, a crew and a sink
-abbrev pub standing : {R K : Type 0} → (R → ℕ) → (K → ℕ) → MemSite → List R → K → Standing
-standing of_runner of_sink site crew sink = record { site = site; runners = map of_runner crew; sink = of_sink sink }
+abbrev pub standing : {R K : Type 0} → Runner R → Sink K → MemSite → List R → K → Standing
+standing runner sink site crew out = record {
+  site = site;
+  runners = map runner.faults crew;
+  commands = told_by runner.tells_ran (map runner.ran crew);
+  sink = sink.faults out;
+  held = told_by sink.tells (sink.held out);
+}
 
 -- the failures counted so far, of a site with these runners and this sink
 abbrev pub counted : MemSite → Standing → Counts
@@ -43,7 +56,9 @@ pub record EndsDeed (deed : ADeed) (end : End) (old new : MemSite) : Type 0 wher
 pub record TakesDeed (deed : ADeed) (end : End) (from to : Standing) : Type 0 where
   pub ends : EndsDeed deed end from.site to.site
   pub runners : to.runners ≡ from.runners
+  pub commands : to.commands ≡ from.commands
   pub sink : to.sink ≡ from.sink
+  pub held : to.held ≡ from.held
 
 -- A turn that is a run: it began once so many calls were let pass, and left what the program promises of a run with these
 -- words; then all calls pass again.
@@ -55,6 +70,8 @@ pub record TakesRun (tells : Bool) (next : Next) (words : List Word) (stop_after
   pub keeps : Keeps tells next (order words) (world_in begun) (world_in ended) (counted begun from) (counted ended to) status end.ran
   pub leaves : Leaves (order words) begun ended status
   pub updates : IsTrue tells → IsKept next begun → Updates next (length from.runners) (order words) begun ended status end.ran
+  pub runs : (before now : List (List (Names × List ℕ))) → from.commands ≡ Some before → to.commands ≡ Some now → HasRun tells next (order words) (length from.runners) (world_in begun) before now status end.ran
+  pub prints : (held holds : List ℕ) → from.held ≡ Some held → to.held ≡ Some holds → HasPrinted tells next (order words) (length from.runners) begun ended from.sink to.sink held holds status end.ran
   pub goes_on : Lets (left_behind stop_after (left_of ended)) ended to.site
   pub moment : end.moment ≡ moment_of to.site
   pub answered : end.status ≡ Some status
@@ -103,7 +120,9 @@ StopsThere turns ends site (Some (at, why)) = (at ≡ length ends) × IsRefusedA
 pub record StandsAs (old new : Standing) : Type 0 where
   pub site : IsUntouched old.site new.site
   pub runners : new.runners ≡ old.runners
+  pub commands : new.commands ≡ old.commands
   pub sink : new.sink ≡ old.sink
+  pub held : new.held ≡ old.held
 
 -- What became of these turns: those that have an end are a history, of which the site still tells. A turn that was refused
 -- changed nothing, and those behind it weren't carried out.

@@ -46,10 +46,10 @@ pub fn history<W: Threads + Wait + Sync, R: Runner + Send, K: Sink>(
     // A project that is kept before them, or in which nothing has begun, is kept behind each of them,
     // whatever a crash leaves; and each update of it that is done leaves exactly the files of a clean
     // build of its sources.
-    ensures kept { let stands = standing R.faults K.faults in (stage : Stage)
+    ensures kept { let stands = standing R.Runner.own K.Sink.own in (stage : Stage)
         → Stands R.next stage site → AreKept R.tells R.next turns.items result.ends
         (stands site crew.items out.old) (stands result.site result.crew.items out.new) stage }
-    ensures lived { let stands = standing R.faults K.faults in
+    ensures lived { let stands = standing R.Runner.own K.Sink.own in
         AreLived R.tells R.next turns.items result.ends result.refused
         (stands site crew.items out.old) (stands result.site result.crew.items out.new) }
 {
@@ -109,11 +109,11 @@ fn take_turn<W: Threads + Wait + Sync, R: Runner + Send, K: Sink>(
     out: &mut K,
 ) -> Taken<R>
     requires crew { IsCrew life.crew.items }
-    ensures takes { let stands = standing R.faults K.faults in
+    ensures takes { let stands = standing R.Runner.own K.Sink.own in
         let from = stands life.site life.crew.items out.old in
         let to = stands result.life.site result.life.crew.items out.new in
         IfOk result.end (λ end. Takes R.tells R.next turn end from to) }
-    ensures stays { let stands = standing R.faults K.faults in
+    ensures stays { let stands = standing R.Runner.own K.Sink.own in
         let from = stands life.site life.crew.items out.old in
         let to = stands result.life.site result.life.crew.items out.new in
         OnErr result.end (StandsAs from to) }
@@ -166,7 +166,7 @@ fn take_run<W: Threads + Wait + Sync, R: Runner + Send, K: Sink>(
     out: &mut K,
 ) -> (Life<R>, End)
     requires crew { IsCrew life.crew.items }
-    ensures takes { let stands = standing R.faults K.faults in
+    ensures takes { let stands = standing R.Runner.own K.Sink.own in
         let from = stands life.site life.crew.items out.old in
         let to = stands result.0.site result.0.crew.items out.new in
         TakesRun R.tells R.next words.now stop_after result.1 from to }

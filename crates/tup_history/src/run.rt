@@ -1,11 +1,13 @@
 //! A run of the program as a turn.
-ghost use Rattle.std.specs.Prelude.{IsTrue, length, map};
+ghost use Rattle.std.specs.Prelude.{◌≡◌, ℕ, List, Some, IsTrue, length, map};
+ghost use Rattle.tup_path.specs.Name.{Names};
 ghost use Rattle.tup_site.specs.Memory.{world_in, faults_of, left_of};
 ghost use Rattle.tup_top.specs.Crew.{IsCrew};
 ghost use Rattle.tup_top.specs.Order.{order};
 ghost use Rattle.tup_top.specs.Promise.{counts};
 ghost use Rattle.tup_history.specs.Kept.{IsKept};
 ghost use Rattle.tup_history.specs.Run.{Keeps, Leaves, Updates, Lets, left_then, left_behind};
+ghost use Rattle.tup_history.specs.Telling.{HasPrinted, HasRun, told_by};
 
 use std::alloc::Global;
 use std::sync::Wait;
@@ -31,6 +33,17 @@ pub(crate) fn run<W: Threads + Wait + Sync, R: Runner + Send, K: Sink>(
         let now = counted result.site result.crew.items out.new in
         Keeps R.tells R.next (order words.now) (world_in site) (world_in result.site) before now
         result.status result.ran }
+    ensures runs { (before now : List (List (Names × List ℕ)))
+        → told_by R.tells_ran (map R.ran crew.items) ≡ Some before
+        → told_by R.tells_ran (map R.ran result.crew.items) ≡ Some now
+        → let many = length (map R.faults crew.items) in
+        HasRun R.tells R.next (order words.now) many (world_in site) before now result.status
+        result.ran }
+    ensures prints { (held holds : List ℕ) → told_by K.tells (K.held out.old) ≡ Some held
+        → told_by K.tells (K.held out.new) ≡ Some holds
+        → let many = length (map R.faults crew.items) in
+        HasPrinted R.tells R.next (order words.now) many site result.site
+        (K.faults out.old) (K.faults out.new) held holds result.status result.ran }
     ensures leaves { Leaves (order words.now) site result.site result.status }
     ensures updates { IsTrue R.tells → IsKept R.next site
         → let many = length (map R.faults crew.items) in

@@ -109,7 +109,7 @@ module _ (first now : World) (g : GraphState) (noted : IsNoted first now g) wher
   -- what was owned is owned
   pub owned_still : (was : GraphState) (path : Names) → IsGraphIn first.store was → is_owned was path ≡ true → is_owned g path ≡ true
   owned_still was path stored owned =
-      ap (λ (m : finite.FinMap by_names Owned). is_some (finite.get m path)) (noted.scanned.2.owned ∙ ap (λ (h : GraphState). h.owned) (one_in_bytes first.store noted.was was noted.stored stored)) ∙ owned
+      ap (λ (m : finite.FinMap by_names Owned). is_some (finite.get m path)) (noted.scanned.1.owned ∙ ap (λ (h : GraphState). h.owned) (one_in_bytes first.store noted.was was noted.stored stored)) ∙ owned
 
   module _ (next : Next) (known : List Content) (was_kept : IsKept next tupfiles known noted.was) (seen : HasSeen g now.tree) where
     abbrev was : GraphState
@@ -124,15 +124,15 @@ module _ (first now : World) (g : GraphState) (noted : IsNoted first now g) wher
       created = nothing.created;
       rules = (was, noted.stored, comes_to g sources found nothing.fresh nothing.gone next tupfiles known is_language.1 kept refreshed);
       due = λ number. due_if first was noted.stored now.tree g.rules number (is_flagged g number ≡ true) noted.tree (reach number);
-      unmade = (was, noted.stored, still_unmade was g kept.owners noted.scanned.2.owned);
-      runs = (was, noted.stored, still_runs was was g noted.scanned.2.rules noted.scanned.2.runs (λ number rule here. inl (number, here, refl)));
+      unmade = (was, noted.stored, still_unmade was g kept.owners noted.scanned.1.owned);
+      runs = (was, noted.stored, still_runs was was g noted.scanned.1.rules noted.scanned.1.runs (λ number rule here. inl (number, here, refl)));
     }
       where
         reach : (number : ℕ) → (is_flagged g number ≡ true) ↔ IsReached was now.tree g.rules number
         reach number =
-            subst (λ (rules : List Rule). (is_flagged g number ≡ true) ↔ IsReached was now.tree rules number) (sym noted.scanned.2.rules)
-            (scan_flags_are_reach next tupfiles known was g noted.scanned.0 noted.scanned.1 now.tree number is_language.1 was_kept flags
-            (runs_stored (entries_of noted.stored.commits) was noted.stored.graph) noted.scanned.2 seen)
+            subst (λ (rules : List Rule). (is_flagged g number ≡ true) ↔ IsReached was now.tree rules number) (sym noted.scanned.1.rules)
+            (scan_flags_are_reach next tupfiles known was g noted.scanned.0 (finite.get first.tree tup_config) now.tree number is_language.1 was_kept flags
+            (runs_stored (entries_of noted.stored.commits) was noted.stored.graph) noted.scanned.1 seen)
 
     -- and where readings were swapped in
     pub swap_brought : (found : Refreshed) (rules : List Rule) (new : GraphState) → SeesSources sources g → IsRefresh g sources (Ok found) → AreLinked found.all rules → IsSwapped g found.fresh found.gone rules new
@@ -141,8 +141,8 @@ module _ (first now : World) (g : GraphState) (noted : IsNoted first now g) wher
       created = swapped.created;
       rules = (was, noted.stored, subst (λ (l : List Rule). ComeTo sources (Ok l)) (sym swapped.rules_are) comes);
       due = λ number. due_if first was noted.stored now.tree new.rules number (is_flagged new number ≡ true) noted.tree (reach number);
-      unmade = (was, noted.stored, swap_unmade known was g new noted.scanned.2.owned found.fresh found.gone rules fits swapped);
-      runs = (was, noted.stored, swap_runs was g new found.fresh found.gone rules noted.scanned.2.rules noted.scanned.2.runs swapped);
+      unmade = (was, noted.stored, swap_unmade known was g new noted.scanned.1.owned found.fresh found.gone rules fits swapped);
+      runs = (was, noted.stored, swap_runs was g new found.fresh found.gone rules noted.scanned.1.rules noted.scanned.1.runs swapped);
     }
       where
         comes : ComeTo sources (Ok rules)
@@ -151,7 +151,7 @@ module _ (first now : World) (g : GraphState) (noted : IsNoted first now g) wher
         reach : (number : ℕ) → (is_flagged new number ≡ true) ↔ IsReached was now.tree new.rules number
         reach number =
             subst (λ (l : List Rule). (is_flagged new number ≡ true) ↔ IsReached was now.tree l number) (sym swapped.rules_are)
-            (flags_are_reach next tupfiles known was g new noted.scanned.0 noted.scanned.1 found.fresh found.gone rules now.tree sources number is_language.1 was_kept noted.scanned.2 seen as_seen comes swapped)
+            (flags_are_reach next tupfiles known was g new noted.scanned.0 (finite.get first.tree tup_config) found.fresh found.gone rules now.tree sources number is_language.1 was_kept noted.scanned.1 seen as_seen comes swapped)
 
 -- what stays so is brought still
 pub brought_on : (first : World) (g h : GraphState) → StaysBrought g h → IsBrought first g

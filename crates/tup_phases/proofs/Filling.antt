@@ -1,5 +1,5 @@
 -- What a store lacks room for that is said to be full.
-use Rattle.std.proofs.Common.{◌≡◌, ◌≢◌, ◌⊎◌, inl, inr, ⊎_elim, true, IsTrue, List, Result, Err, refl, sym, ap, subst}
+use Rattle.std.proofs.Common.{◌≡◌, ◌≢◌, ◌⊎◌, inl, inr, ⊎_elim, IsTrue, List, Result, Err, refl, sym, ap, subst}
 use Rattle.tup_path.specs.Name.{Names}
 use Rattle.tup_site.specs.World.{World}
 use Rattle.tup_site.specs.declared.site.Site.{Ghosts as Site}
@@ -19,7 +19,7 @@ use Rattle.tup_scan.specs.declared.fault.ScanFault.TheVariants as scan
 use Rattle.tup_commit.specs.Noted.{Notes}
 use Rattle.tup_refresh.specs.declared.fault.RefreshFault.{RefreshFault}
 use Rattle.tup_refresh.specs.declared.fault.RefreshFault.TheVariants as refresh
-use Rattle.tup_stale.specs.Cleared.{CannotDoom, CannotForget, AtFirst, Removed, Leaves, doomed}
+use Rattle.tup_stale.specs.Cleared.{CannotDoom, CannotForget, AtFirst, Removed, Leaves}
 use Rattle.tup_stale.specs.Unmade.{unmade}
 use Rattle.tup_stale.specs.declared.fault.StaleFault.{StaleFault}
 use Rattle.tup_stale.specs.declared.fault.StaleFault.TheVariants as stale

@@ -2,6 +2,7 @@ mod Stopping
 mod Opening
 mod Seeing
 pub mod Keeping
+mod Ascending
 pub mod Users
 mod Brought
 pub mod Within
@@ -10,3 +11,5 @@ mod Filling
 mod Owning
 mod Tidying
 mod Telling
+mod Reading
+pub mod Removing

@@ -169,4 +169,4 @@ opened_before (stop.Outside failed) is = tt
 
 -- two parts of an update that run no rule
 pub none_both : (old mid new : Log) → RunsNone old mid → RunsNone mid new → RunsNone old new
-none_both old mid new one two = record { ran = two.ran ∙ one.ran; ended = two.ended ∙ one.ended }
+none_both old mid new one two = record { ran = two.ran ∙ one.ran; ended = two.ended ∙ one.ended; steps = two.steps ∙ one.steps }

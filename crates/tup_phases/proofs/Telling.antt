@@ -1,18 +1,19 @@
 -- What a log tells, and what is left of the files, where an update stops before its rules are run.
-use Rattle.std.proofs.Common.{◌≡◌, [], IsTrue, Bool, List, Err, ap, ◌∙◌}
+use Rattle.std.proofs.Common.{◌≡◌, inl, inr, [], IsTrue, Bool, List, Some, Err, ap, ◌∙◌}
 use Rattle.tup_path.specs.Name.{Names}
 use Rattle.tup_site.specs.World.{World, TreeStays}
 use Rattle.tup_stored_graph.specs.Held.{Held}
 use Rattle.tup_stale.specs.Cleared.{Leaves}
 use Rattle.tup_stale.specs.declared.fault.StaleFault.{StaleFault}
 use Rattle.tup_stale.specs.declared.fault.StaleFault.TheVariants as stale
+use Rattle.tup_promise.specs.Did.{OnlyRead, ReadAndRemoved}
 use Rattle.tup_promise.specs.Stopped.{stop_of_stale}
 use Rattle.tup_promise.specs.Unopened.{IsEmptyLog}
 use Rattle.tup_promise.specs.declared.log.Log.{Log}
 use Rattle.tup_promise.specs.declared.stop.Stop.{Stop}
 use Rattle.tup_promise.specs.declared.stop.Stop.TheVariants.{NoStore, BadStore, Sources, UserFile, Bad, Run, Full, Outside}
 use Rattle.tup_phases.specs.Spared.{LeavesTree}
-use Rattle.tup_phases.specs.Prepared.{LogsBefore, StopsClearing}
+use Rattle.tup_phases.specs.Prepared.{LogsBefore, StopsClearing, StopsSurvey}
 
 -- nothing was told yet
 pub empty_logs : (log : Log) (by : Stop) → IsEmptyLog log → LogsBefore log by
@@ -43,6 +44,28 @@ stale_clears stale.Site = tt
 stale_clears (stale.TooLarge bytes) = tt
 stale_clears stale.Full = tt
 stale_clears stale.Memory = tt
+
+-- no Tupfile was told of yet, and no file
+pub survey_did : (w : World) (log : Log) (by : Stop) → IsEmptyLog log → StopsSurvey by → ReadAndRemoved w log (Some by)
+survey_did w log NoStore empty stops = (empty.read, empty.removed)
+survey_did w log (BadStore offset) empty stops = (empty.read, empty.removed)
+survey_did w log (Sources fault) empty stops = (empty.read, empty.removed)
+survey_did w log (UserFile path written found) empty stops = absurd stops
+survey_did w log (Bad name verdict) empty stops = absurd stops
+survey_did w log Run empty stops = absurd stops
+survey_did w log Full empty stops = inl (empty.read, empty.removed)
+survey_did w log (Outside failed) empty stops = inl (empty.read, empty.removed)
+
+-- Tupfiles were, and no file
+pub clearing_did : (w : World) (log : Log) (by : Stop) → OnlyRead w log → StopsClearing by → ReadAndRemoved w log (Some by)
+clearing_did w log NoStore read stops = absurd stops
+clearing_did w log (BadStore offset) read stops = absurd stops
+clearing_did w log (Sources fault) read stops = absurd stops
+clearing_did w log (UserFile path written found) read stops = read
+clearing_did w log (Bad name verdict) read stops = absurd stops
+clearing_did w log Run read stops = absurd stops
+clearing_did w log Full read stops = inr (inl read)
+clearing_did w log (Outside failed) read stops = inr (inl read)
 
 -- no file was touched
 pub same_tree : (old new : World) (by : Stop) → TreeStays old new → LeavesTree old new by

@@ -1,5 +1,5 @@
 -- Files of the user's at paths that no rule makes any more.
-use Rattle.std.proofs.Common.{◌≡◌, ℕ, Bool, true, false, List, filter, Option, None, Some, All, Contains, is_none, refl, sym, ap, subst, ◌∙◌}
+use Rattle.std.proofs.Common.{◌≡◌, ℕ, Bool, true, false, List, filter, take, Option, None, Some, All, Contains, is_none, refl, sym, ap, subst, ◌∙◌}
 use Rattle.std.specs.FinMap as finite
 use Rattle.std.specs.Option.{option_map}
 use Rattle.std.proofs.lemmas.Bool.{true≢false}
@@ -30,9 +30,10 @@ use Rattle.tup_stale.specs.Unmade.{HasNoUsers, HasUsers, IsFirstUsers, IsUsers, 
 use Rattle.tup_law_board.proofs.Unmade.{unmade_at}
 use Rattle.tup_law_phases.specs.Language.{tupfiles}
 use Rattle.tup_promise.specs.States.{StateStays}
-use Rattle.tup_promise.specs.Users.{HasUsersFile, IsUsersFile}
+use Rattle.tup_promise.specs.Users.{HasUsersFile, IsFirstUsersFile, IsUsersFile}
 use Rattle.tup_promise.proofs.Asked.{one_asked}
 use Rattle.tup_phases.specs.Kept.{IsBrought, KeepsUnmade}
+use Rattle.tup_phases.proofs.Ascending.{stands_in_front, unmade_ascends}
 
 -- ---- what no rule makes has no maker
 unmade_maker : (rules : List Rule) (path : Names) → is_generated rules path ≡ false → maker path rules ≡ None
@@ -114,7 +115,7 @@ module _ (known : List Content) (was g new : GraphState) (owned_same : g.owned �
   }
 
 -- ---- an owned path without a maker is among those that no rule makes
-is_unmade : (g : GraphState) (path : Names) (owned : Owned) → finite.get g.owned path ≡ Some owned → owned.maker ≡ None → Contains (unmade g) path
+pub is_unmade : (g : GraphState) (path : Names) (owned : Owned) → finite.get g.owned path ≡ Some owned → owned.maker ≡ None → Contains (unmade g) path
 is_unmade g path owned is none =
     map_in (λ (entry : Names × Owned). entry.0) (filter lacks_maker (finite.entries g.owned)) (path, owned)
     (in_filter lacks_maker (finite.entries g.owned) (path, owned) (entry_found g.owned path owned is) (ap is_none none))
@@ -122,8 +123,8 @@ is_unmade g path owned is none =
 -- ---- a file of the user's in a graph that was brought up to date, and in the world with which the update began
 module _ (first : World) (g : GraphState) (tree : Tree) (brought : IsBrought first g) (same : tree ≡ first.tree) where
   -- the one that a clearing meets stood there
-  pub met_users : (path : Names) (written : Option Stamp) (found : Stamp) → IsFirstUsers g tree (unmade g) path written found → IsUsersFile first path written found
-  met_users path written found met = record {
+  stood_there : (path : Names) (written : Option Stamp) (found : Stamp) → IsFirstUsers g tree (unmade g) path written found → IsUsersFile first path written found
+  stood_there path written found met = record {
     graph = brought.unmade.0;
     stored = brought.unmade.1;
     users = record {
@@ -169,7 +170,16 @@ module _ (first : World) (g : GraphState) (tree : Tree) (brought : IsBrought fir
       after : (owned : Owned) × (finite.get g.owned path ≡ Some owned) × (owned.maker ≡ None) × (owned.state ≡ it.users.owned.state)
       after = brought.unmade.2.after path it.users.owned owns (subst (λ (l : List Rule). is_generated l path ≡ false) (one_asked first it.rules g.rules it.asked brought.rules) it.unmade)
 
-  -- so a clearing finds no such file only where none stood
+  -- so the one that is met is the first that stood there
+  pub met_users : (path : Names) (written : Option Stamp) (found : Stamp) → IsFirstUsers g tree (unmade g) path written found → IsFirstUsersFile first path written found
+  met_users path written found met = record {
+    users = stood_there path written found met;
+    first = λ earlier was is before it.
+        let there = stays_users earlier was is it in
+        All-contains (HasNoUsers g tree) (take met.at (unmade g)) earlier met.first (stands_in_front (unmade g) (unmade_ascends g) met.at path earlier met.here before there.1) was is there.0;
+  }
+
+  -- and a clearing finds no such file only where none stood
   pub none_met : HasUsersFile first → All (HasNoUsers g tree) (unmade g) → ⊥
   none_met (path, written, found, it) none =
       let there = stays_users path written found it in

@@ -66,17 +66,17 @@ module _ (first : World) (g : GraphState) (stored : IsGraphIn first.store g) (fl
 
 -- ---- after a scan
 module _ (next : Next) (known : List Content) (first : World) (was g : GraphState) (tree : Tree) (stored : IsGraphIn first.store was) (same : tree ≡ first.tree) (kept : IsKept next tupfiles known was) (flags : AreFlagsOfRules was)
-    (scanned : IsScannedFrom was g) (seen : HasSeen g tree) where
+    (config : Option Content) (scanned : IsScannedFrom was config g) (seen : HasSeen g tree) where
   scan_due : (number : ℕ) → is_flagged g number ≡ true → IsReached was first.tree g.rules number
   scan_due number flagged =
       subst (λ (t : Tree). IsReached was t g.rules number) same
-      (subst (λ (rules : List Rule). IsReached was tree rules number) (sym scanned.2.rules)
-      ((scan_flags_are_reach next tupfiles known was g scanned.0 scanned.1 tree number is_language.1 kept flags (runs_stored (entries_of stored.commits) was stored.graph) scanned.2 seen).0 flagged))
+      (subst (λ (rules : List Rule). IsReached was tree rules number) (sym scanned.1.rules)
+      ((scan_flags_are_reach next tupfiles known was g scanned.0 config tree number is_language.1 kept flags (runs_stored (entries_of stored.commits) was stored.graph) scanned.1 seen).0 flagged))
 
   pub scan_within : StaysWithin first g
   scan_within = record {
     due = λ number flagged. (was, stored, scan_due number flagged);
-    states = (was, stored, λ path owned is. inl (owned, subst (λ (m : finite.FinMap by_names Owned). finite.get m path ≡ Some owned) scanned.2.owned is, refl));
+    states = (was, stored, λ path owned is. inl (owned, subst (λ (m : finite.FinMap by_names Owned). finite.get m path ≡ Some owned) scanned.1.owned is, refl));
   }
 
 -- ---- after a swap

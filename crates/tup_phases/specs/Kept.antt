@@ -9,6 +9,7 @@ use Rattle.tup_site.specs.declared.site.Site.{Ghosts as Site}
 use Rattle.tup_rule.specs.Rule.{is_generated}
 use Rattle.tup_rule.specs.declared.rule.Rule.{Rule}
 use Rattle.tup_runner.specs.Next.{Next}
+use Rattle.tup_graph.specs.Answers.{tup_config}
 use Rattle.tup_graph.specs.declared.owned.Owned.{Owned}
 use Rattle.tup_graph.specs.Graph.{GraphState, is_flagged}
 use Rattle.tup_graph.specs.Kept.{IsGraphIn, IsKeptSite, IsRuleAt}
@@ -21,7 +22,7 @@ use Rattle.tup_promise.specs.Crashes.{OwnsNoMore}
 use Rattle.tup_promise.specs.Kept.{AsksFor, OfGraph}
 use Rattle.tup_promise.specs.Needed.{IsDue}
 use Rattle.tup_promise.specs.States.{KeepsStates, StateStays}
-use Rattle.tup_promise.specs.Users.{IsUsersFile}
+use Rattle.tup_promise.specs.Users.{IsFirstUsersFile}
 use Rattle.tup_promise.specs.declared.stop.Stop.{Stop}
 use Rattle.tup_promise.specs.declared.stop.Stop.TheVariants.{NoStore, BadStore, Sources, UserFile, Bad, Run, Full, Outside}
 
@@ -44,15 +45,15 @@ KeepsOn {S} site old new = (next : Next) (first : World) (since : ℕ) → IsKep
 
 -- ---- the graph
 
--- a graph is the one that a scan leaves of another
-abbrev pub IsScannedFrom : GraphState → GraphState → Type 0
-IsScannedFrom old new = (files : List (Names × Stamp)) × (config : Option Content) × IsScanned old files config new
+-- a graph is the one that a scan leaves of another, which found this in tup.config
+abbrev pub IsScannedFrom : GraphState → Option Content → GraphState → Type 0
+IsScannedFrom old config new = (files : List (Names × Stamp)) × IsScanned old files config new
 
 -- the graph of a world was scanned, and since then no file changed
 pub record IsNoted (first now : World) (g : GraphState) : Type 0 where
   pub was : GraphState
   pub stored : IsGraphIn first.store was
-  pub scanned : IsScannedFrom was g
+  pub scanned : IsScannedFrom was (finite.get first.tree tup_config) g
   pub tree : TreeStays first now
 
 -- The paths that no rule makes. One that has lost its maker was owned in the state in which it is, and none of the rules makes it;
@@ -109,7 +110,7 @@ abbrev pub BlamesSources : World → Stop → Type 0
 BlamesSources w (Sources fault) = IsFaultOf w fault
 BlamesSources w NoStore = ⊤
 BlamesSources w (BadStore offset) = ⊤
-BlamesSources w (UserFile path written found) = IsUsersFile w path written found
+BlamesSources w (UserFile path written found) = IsFirstUsersFile w path written found
 BlamesSources w (Bad name verdict) = ⊤
 BlamesSources w Run = ⊤
 BlamesSources w Full = ⊤

@@ -5,6 +5,7 @@ use Rattle.tup_site.specs.declared.fault.SiteFailed.TheVariants.{Fault, TooLarge
 use Rattle.tup_rule.specs.declared.rule.RuleName.{RuleName}
 use Rattle.tup_access.specs.declared.verdict.Verdict.{Verdict}
 use Rattle.tup_clean.specs.Clean.{is_good}
+use Rattle.tup_promise.specs.Interleaved.{Interleave}
 use Rattle.tup_promise.specs.Unopened.{IsEmptyLog}
 use Rattle.tup_promise.specs.declared.log.EndedRule.{EndedRule}
 use Rattle.tup_promise.specs.declared.log.Log.{Log}
@@ -15,6 +16,7 @@ use Rattle.tup_promise.specs.declared.stop.Stop.TheVariants.{NoStore, BadStore, 
 pub record BeginsNone (log : Log) : Type 0 where
   pub ran : log.ran ≡ []
   pub ended : log.ended ≡ []
+  pub steps : log.steps ≡ []
 
 -- the rules whose command came to a verdict, in their order
 abbrev pub ended_rules : Log → List RuleName
@@ -24,14 +26,17 @@ ended_rules log = map (λ (one : EndedRule). one.rule) log.ended
 abbrev pub AreGood : List EndedRule → Type 0
 AreGood ended = All (λ one. is_good (Some one.verdict) ≡ true) ended
 
--- The rules that were begun are those whose command came to a verdict, and these others. With one runner the others are the last.
-pub record AreBegun (jobs : ℕ) (log : Log) (others : List RuleName) : Type 0 where
-  pub all : IsPermutation log.ran (ended_rules log ++ others)
-  pub alone : jobs ≡ 1 → log.ran ≡ ended_rules log ++ others
+-- The rules that were begun are those whose command came to a verdict, of which a log leaves these last ones out, and these others.
+-- With one runner the others are the last. The steps of the log say how they followed each other: at most as many were under way at
+-- once as there are runners.
+pub record AreBegun (jobs : ℕ) (log : Log) (left others : List RuleName) : Type 0 where
+  pub all : IsPermutation log.ran (ended_rules log ++ (left ++ others))
+  pub alone : jobs ≡ 1 → log.ran ≡ ended_rules log ++ (left ++ others)
+  pub steps : Interleave jobs [] log.steps log.ran (ended_rules log ++ left)
 
 -- each rule that was begun came to a verdict, which is Good
 pub record EndsWell (jobs : ℕ) (log : Log) : Type 0 where
-  pub begun : AreBegun jobs log []
+  pub begun : AreBegun jobs log [] []
   pub good : AreGood log.ended
 
 -- Once a command has come to a bad verdict no rule is begun: beside those that had ended well by then, no more were begun than
@@ -46,7 +51,7 @@ pub record EndsSoon (jobs : ℕ) (log : Log) : Type 0 where
 -- This rule came to this verdict. Where an update keeps going each came to one; and where it doesn't, it ends soon.
 pub record EndsBadly (jobs : ℕ) (keep_going : Bool) (log : Log) (name : RuleName) (verdict : Verdict) : Type 0 where
   pub others : List RuleName
-  pub begun : AreBegun jobs log others
+  pub begun : AreBegun jobs log [] others
   pub front : List EndedRule
   pub bad : EndedRule
   pub back : List EndedRule
@@ -58,8 +63,9 @@ pub record EndsBadly (jobs : ℕ) (keep_going : Bool) (log : Log) (name : RuleNa
 
 -- some of the rules that were begun came to a verdict; with one runner the first of them
 pub record EndsFirst (jobs : ℕ) (log : Log) : Type 0 where
-  pub rest : List RuleName
-  pub begun : AreBegun jobs log rest
+  pub left : List RuleName
+  pub others : List RuleName
+  pub begun : AreBegun jobs log left others
 
 -- each verdict is Good but for those of the last commands, which are fewer than there are runners
 pub record AreGoodBefore (jobs : ℕ) (ended : List EndedRule) : Type 0 where

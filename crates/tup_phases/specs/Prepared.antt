@@ -18,6 +18,7 @@ HasSeen g tree = (path : Names) → finite.get g.seen path ≡ stamp_in tree pat
 pub record RunsNone (old new : Log) : Type 0 where
   pub ran : new.ran ≡ old.ran
   pub ended : new.ended ≡ old.ended
+  pub steps : new.steps ≡ old.steps
 
 -- what may stop an update before any rule is run
 abbrev pub StopsBefore : Stop → Type 0

@@ -1,5 +1,5 @@
 //! What the Tupfiles say by now.
-ghost use Rattle.std.specs.Prelude.{◌≡◌, ℕ, Ok, IsTrue, IfOk, IfErr, OnErr, OnOk, map};
+ghost use Rattle.std.specs.Prelude.{◌≡◌, ℕ, [], Ok, IsTrue, IfOk, IfErr, OnErr, OnOk, map};
 ghost use Rattle.std.specs.FinMap as finite;
 ghost use Rattle.std.specs.Result.{result_err};
 ghost use Rattle.tup_site.specs.Crash.{GoesOn};
@@ -12,6 +12,7 @@ ghost use Rattle.tup_stored_graph.specs.Held.{is_fresh, StandsFor};
 ghost use Rattle.tup_refresh.specs.Refresh.{AreSorted, IsRefresh};
 ghost use Rattle.tup_promise.specs.Cause.{HasCountedCause};
 ghost use Rattle.tup_promise.specs.Crashes.{OwnsNoMore};
+ghost use Rattle.tup_promise.specs.Did.{ReadsWhatIsDue};
 ghost use Rattle.tup_phases.specs.Kept.{BlamesSources, BringsNothing, HoldsWithin, IsBrought, IsKeptSince, IsNoted, LeavesFiles};
 ghost use Rattle.tup_phases.specs.Prepared.{HasSeen, RunsNone, StopsReading};
 ghost use Rattle.tup_phases.specs.Room.{FillsStore};
@@ -63,6 +64,11 @@ pub(crate) fn brought<S: Site>(
         → IsNoted first (S.world site.old) graph.old.nodes
         → IsKeptSince S.Site.own next first since site.old
         → OnOk result (IsBrought first graph.new.nodes) }
+    // The log of one that read nothing yet has the folders then that had to be read.
+    ensures reads { IsTrue S.tells → (next : Next) (first : World) (since : ℕ)
+        → IsNoted first (S.world site.old) graph.old.nodes
+        → IsKeptSince S.Site.own next first since site.old
+        → log.old.read ≡ [] → OnOk result (ReadsWhatIsDue first log.new.read) }
     ensures within { IsTrue S.tells → (next : Next) (first : World) (since : ℕ)
         → IsNoted first (S.world site.old) graph.old.nodes
         → IsKeptSince S.Site.own next first since site.old
@@ -137,6 +143,11 @@ fn swapped<S: Site>(
         → IsNoted first (S.world site.old) graph.old.nodes
         → IsKeptSince S.Site.own next first since site.old
         → OnOk result (IsBrought first graph.new.nodes) }
+    ensures reads { IsTrue S.tells → (first : World)
+        → let sources = sources_of graph.old.nodes (S.world site.old).tree in
+        IsRefresh graph.old.nodes sources (Ok found)
+        → IsNoted first (S.world site.old) graph.old.nodes
+        → OnOk result (ReadsWhatIsDue first log.new.read) }
     ensures within { IsTrue S.tells → (next : Next) (first : World) (since : ℕ)
         → let sources = sources_of graph.old.nodes (S.world site.old).tree in
         IsRefresh graph.old.nodes sources (Ok found)

@@ -15,6 +15,7 @@ ghost use Rattle.tup_law_site.specs.Over.{IsKeptNow};
 ghost use Rattle.tup_law_phases.specs.Language.{tupfiles};
 ghost use Rattle.tup_promise.specs.Cause.{HasCountedCause};
 ghost use Rattle.tup_promise.specs.Crashes.{OwnsNoMore};
+ghost use Rattle.tup_promise.specs.Did.{ReadAndRemoved, RemovesWhatIsUnmade};
 ghost use Rattle.tup_promise.specs.Kept.{AsksFor, OfGraph};
 ghost use Rattle.tup_promise.specs.Needed.{FlagsWhatWasDue};
 ghost use Rattle.tup_promise.specs.Prepared.{IsPrepared};
@@ -101,6 +102,10 @@ pub fn prepared<W: Threads + Sync, S: Site>(
         → IsKeptNow S.Site.own next tupfiles (S.known site.old) site.old
         → HasUsersFile (S.world site.old)
         → GoesOn S.moment S.left_since site.old site.new TreeStays }
+    // The log has just the folders whose Tupfile had to be read, and the files that had to be removed, as far as it came.
+    ensures did { IsTrue S.tells → (next : Next)
+        → IsKeptNow S.Site.own next tupfiles (S.known site.old) site.old
+        → ReadAndRemoved (S.world site.old) log.new (result_err result) }
     ensures unopened { IsTrue S.tells
         → Unopened (S.world site.old) (S.world site.new) log.new (result_err result) }
     // And then a crash leaves no more than what was, or an opening of the store.
@@ -168,6 +173,11 @@ fn cleared<S: Site>(
     ensures trees { IsTrue S.tells → (first : World) → IsBrought first graph.old.nodes
         → TreeStays first (S.world site.old) → HasUsersFile first
         → GoesOn S.moment S.left_since site.old site.new TreeStays }
+    // The log has just the files then that had to be removed.
+    ensures removes { IsTrue S.tells → (first : World) → IsBrought first graph.old.nodes
+        → TreeStays first (S.world site.old)
+        → OnOk result (RemovesWhatIsUnmade first log.new.removed) }
+    ensures read { log.new.read ≡ log.old.read }
     ensures none { RunsNone log.old log.new }
     ensures told { OnErr result (log.new ≡ log.old) }
     ensures clears { IfErr result StopsClearing }

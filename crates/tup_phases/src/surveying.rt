@@ -14,6 +14,7 @@ ghost use Rattle.tup_law_site.specs.Over.{IsKeptNow};
 ghost use Rattle.tup_law_phases.specs.Language.{tupfiles};
 ghost use Rattle.tup_promise.specs.Cause.{HasCountedCause};
 ghost use Rattle.tup_promise.specs.Crashes.{OwnsNoMore};
+ghost use Rattle.tup_promise.specs.Did.{ReadsWhatIsDue};
 ghost use Rattle.tup_promise.specs.Unopened.{IsEmptyLog, IsReadable, Unopened};
 ghost use Rattle.tup_promise.specs.declared.log.Log.{Log as LogValue};
 ghost use Rattle.tup_phases.specs.Kept.{BlamesSources, HoldsWithin, IsBrought, IsKeptSince, IsScannedFrom, KeepsOn, LeavesFiles, OwnsOn};
@@ -67,6 +68,10 @@ pub fn surveyed<W: Threads + Sync, S: Site>(
     ensures brought { IsTrue S.tells → (next : Next)
         → IsKeptNow S.Site.own next tupfiles (S.known site.old) site.old
         → IfOk result (λ graph. IsBrought (S.world site.old) graph.nodes) }
+    // And the log has just the folders whose Tupfile had to be read.
+    ensures reads { IsTrue S.tells → (next : Next)
+        → IsKeptNow S.Site.own next tupfiles (S.known site.old) site.old
+        → IfOk result (λ _. ReadsWhatIsDue (S.world site.old) log.new.read) }
     // Whatever the answer, what stands in the store stays within what stood there.
     ensures within { IsTrue S.tells → (next : Next)
         → IsKeptNow S.Site.own next tupfiles (S.known site.old) site.old
@@ -145,7 +150,8 @@ fn noted<W: Threads + Sync, S: Site>(
         → OnOk result (StandsFor S.world S.moment S.left_since graph.new site.new) }
     ensures seen { IsTrue S.tells
         → OnOk result (HasSeen graph.new.nodes (S.world site.new).tree) }
-    ensures scanned { OnOk result (IsScannedFrom graph.old.nodes graph.new.nodes) }
+    ensures scanned { IfOk result
+        (λ config. IsScannedFrom graph.old.nodes config graph.new.nodes) }
     ensures config { IsTrue S.tells
         → IfOk result (λ config. config ≡ finite.get (S.world site.old).tree tup_config) }
     ensures limits { IsTrue S.tells
@@ -230,7 +236,8 @@ fn scanned<W: Threads + Sync, S: Site>(
         → OnOk result (StandsFor S.world S.moment S.left_since graph.new site.new) }
     ensures seen { IsTrue S.tells
         → OnOk result (HasSeen graph.new.nodes (S.world site.new).tree) }
-    ensures scanned { OnOk result (IsScannedFrom graph.old.nodes graph.new.nodes) }
+    ensures scanned { IfOk result
+        (λ config. IsScannedFrom graph.old.nodes config graph.new.nodes) }
     ensures config { IsTrue S.tells
         → IfOk result (λ config. config ≡ finite.get (S.world site.old).tree tup_config) }
     ensures limits { IsTrue S.tells

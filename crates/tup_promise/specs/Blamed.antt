@@ -1,5 +1,5 @@
 -- What is blamed where an update stops for its sources: a rule whose command comes to a bad verdict, a fault for which they ask
--- for no rules, a file of the user's in the way, or a file that is too large to be read (own).
+-- for no rules, the first file of the user's in the way, or a file that is too large to be read (own).
 use Rattle.std.specs.Prelude.{◌≡◌, ◌⊎◌, ⊤, ℕ, length, List, Option, None, Some, Err, Contains, slice_get}
 use Rattle.std.specs.FinMap as finite
 use Rattle.tup_path.specs.Name.{Names}
@@ -18,7 +18,7 @@ use Rattle.tup_ledger.specs.Sources.{sources_of}
 use Rattle.tup_promise.specs.Kept.{AsksFor, OfGraph}
 use Rattle.tup_promise.specs.Needed.{HasName}
 use Rattle.tup_promise.specs.Stopped.{stop_of_project}
-use Rattle.tup_promise.specs.Users.{IsUsersFile}
+use Rattle.tup_promise.specs.Users.{IsFirstUsersFile}
 use Rattle.tup_promise.specs.declared.fault.SourcesFault.{SourcesFault}
 use Rattle.tup_promise.specs.declared.fault.SourcesFault.TheVariants.{TooManyFiles, Parse, CircularDirs, TooManyCommands, NoSuchGroup, TooManyLinks, CircularCommands}
 use Rattle.tup_promise.specs.declared.stop.Stop.{Stop}
@@ -58,7 +58,7 @@ IsToBlame next w now ran None = ⊤
 IsToBlame next w now ran (Some NoStore) = ⊤
 IsToBlame next w now ran (Some (BadStore offset)) = ⊤
 IsToBlame next w now ran (Some (Sources fault)) = IsFaultOf w fault
-IsToBlame next w now ran (Some (UserFile path written found)) = IsUsersFile w path written found
+IsToBlame next w now ran (Some (UserFile path written found)) = IsFirstUsersFile w path written found
 IsToBlame next w now ran (Some (Bad name verdict)) = IsBadRule next w ran name verdict
 IsToBlame next w now ran (Some Run) = ⊤
 IsToBlame next w now ran (Some Full) = ⊤

@@ -1,6 +1,7 @@
 pub mod Stopped
 pub mod Cause
 pub mod Ran
+pub mod Interleaved
 pub mod Unopened
 pub mod Kept
 pub mod Finished
@@ -10,3 +11,5 @@ pub mod Crashes
 pub mod States
 pub mod Prepared
 pub mod Blamed
+pub mod BadEnds
+pub mod Did

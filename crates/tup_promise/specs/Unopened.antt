@@ -17,6 +17,7 @@ pub record IsEmptyLog (log : Log) : Type 0 where
   pub removed : log.removed ≡ []
   pub ran : log.ran ≡ []
   pub ended : log.ended ≡ []
+  pub steps : log.steps ≡ []
 
 -- the bytes are no store, or one of which a record can't be read, from this byte on
 abbrev pub IsDamaged : List ℕ → ℕ → Type 0

@@ -1,6 +1,8 @@
 -- A file of the user's at a path that no rule makes any more: it holds an update up, which touches no file then (own).
 use Rattle.std.specs.Prelude.{◌≡◌, ◌≢◌, false, List, [], Option, None}
+use Rattle.std.specs.declared.cmp.Ordering.TheVariants.{Less}
 use Rattle.tup_path.specs.Name.{Names}
+use Rattle.tup_path.specs.Order.{by_names}
 use Rattle.tup_stamp.specs.declared.Stamp.{Stamp}
 use Rattle.tup_site.specs.Crash.{GoesOn}
 use Rattle.tup_site.specs.World.{World, TreeStays}
@@ -23,6 +25,11 @@ pub record IsUsersFile (w : World) (path : Names) (written : Option Stamp) (foun
   pub rules : List Rule
   pub asked : AsksFor w rules
   pub unmade : is_generated rules path ≡ false
+
+-- such a file, and none stands at a path that comes before in the order of paths
+pub record IsFirstUsersFile (w : World) (path : Names) (written : Option Stamp) (found : Stamp) : Type 0 where
+  pub users : IsUsersFile w path written found
+  pub first : (earlier : Names) (was : Option Stamp) (is : Stamp) → by_names earlier path ≡ Less → IsUsersFile w earlier was is → ⊥
 
 -- somewhere such a file stands
 abbrev pub HasUsersFile : World → Type 0

@@ -10,5 +10,5 @@ mod log;
 mod stop;
 
 pub use fault::SourcesFault;
-pub use log::{EndedRule, Log};
+pub use log::{EndedRule, Log, Step};
 pub use stop::Stop;

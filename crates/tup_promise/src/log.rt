@@ -17,6 +17,17 @@ pub struct Log {
     pub ran: Items<RuleName>,
     /// Those of them whose command came to a verdict.
     pub ended: Items<EndedRule>,
+    /// How these begins and ends follow each other, an end that `ended` leaves out for want of memory included.
+    pub steps: Items<Step>,
+}
+
+/// What was next, of all that a log says of its rules.
+#[derive(Clone, Copy)]
+pub enum Step {
+    /// The next rule of `ran` was begun.
+    Begin,
+    /// The command of the next rule of `ended` came to its verdict.
+    End,
 }
 
 /// A rule whose command came to a verdict.
@@ -38,6 +49,7 @@ impl Log {
             removed: Paths::new(alloc),
             ran: Items::new(alloc),
             ended: Items::new(alloc),
+            steps: Items::new(alloc),
         }
     }
 }

@@ -1,13 +1,9 @@
 -- What the lists of what an update would do have to do with a kept site (own).
-use Rattle.std.specs.Prelude.{◌≡◌, ◌↔◌, ℕ, true, false, List, [], Option, Contains, is_some}
-use Rattle.std.specs.FinMap as finite
-use Rattle.tup_path.specs.Name.{Names}
+use Rattle.std.specs.Prelude.{◌≡◌, ◌↔◌, ℕ, true, [], Option}
 use Rattle.tup_site.specs.World.{World}
-use Rattle.tup_rule.specs.Rule.{is_generated}
-use Rattle.tup_rule.specs.declared.rule.Rule.{Rule}
-use Rattle.tup_graph.specs.Graph.{GraphState, is_flagged, is_owned}
+use Rattle.tup_graph.specs.Graph.{GraphState, is_flagged}
 use Rattle.tup_graph.specs.Kept.{IsGraphIn}
-use Rattle.tup_stale.specs.Unmade.{unmade, standing}
+use Rattle.tup_promise.specs.Did.{ReadsWhatIsDue, RemovesWhatIsUnmade}
 use Rattle.tup_promise.specs.Kept.{AsksFor}
 use Rattle.tup_promise.specs.Needed.{IsDue}
 use Rattle.tup_promise.specs.Unopened.{Unopened}
@@ -15,17 +11,6 @@ use Rattle.tup_promise.specs.declared.log.Log.{Log}
 use Rattle.tup_promise.specs.declared.stop.Stop.{Stop}
 use Rattle.tup_todo.specs.Listing.{due_rules}
 use Rattle.tup_todo.specs.declared.todo.Todo.{Todo}
-
--- A path of which an update that begins in a world removes the file: it is owned there, a file stands there, and none of the rules
--- makes it that the sources ask for.
-pub record IsToRemove (w : World) (path : Names) : Type 0 where
-  pub graph : GraphState
-  pub stored : IsGraphIn w.store graph
-  pub owned : is_owned graph path ≡ true
-  pub stands : is_some (finite.get w.tree path) ≡ true
-  pub rules : List Rule
-  pub asked : AsksFor w rules
-  pub unmade : is_generated rules path ≡ false
 
 -- What an update would do that begins in a world, by what stands in the store of the world that is left.
 pub record ListsWhatIsDue (old new : World) (todo : Todo) : Type 0 where
@@ -38,9 +23,9 @@ pub record ListsWhatIsDue (old new : World) (todo : Todo) : Type 0 where
   pub again : (number : ℕ) → (is_flagged graph number ≡ true) ↔ IsDue new graph.rules number
   -- they are listed in the order of the rules
   pub runs : todo.runs ≡ due_rules graph
-  -- the paths of the files that would be removed are listed in the order of paths
-  pub removes : todo.removes ≡ standing new.tree (unmade graph)
-  pub removed : (path : Names) → Contains todo.removes path ↔ IsToRemove old path
+  -- just the folders are listed as read whose Tupfile had to be read, and just the files that an update has to remove
+  pub read : ReadsWhatIsDue old todo.read
+  pub removes : RemovesWhatIsUnmade old todo.removes
 
 -- how it went on from its store, which may be empty or damaged; no rule was begun
 abbrev pub GoesOnFromStore : World → World → Option Stop → Type 0

@@ -54,7 +54,7 @@ pub fn todo_site<W: Threads + Sync, S: Site>(
     ensures closed { IsTrue S.tells → (IsReadable (S.world site.old).store → ⊥)
         → GoesOn S.moment S.left_since site.old site.new OpenStep }
     ensures files { IsTrue S.tells → LeavesFiles S.Site.own site.old site.new }
-    // Where the site is kept: what is listed is what is due and what vanished. Whatever the answer, it is kept, loses no source
+    // Where the site is kept: what is listed had to be read, is due, or vanished. Whatever the answer, it is kept, loses no source
     // whenever a crash comes, and no more is due than was; and a blame is true.
     ensures lists { IsTrue S.tells → (next : Next)
         → IsKeptNow S.Site.own next tupfiles (S.known site.old) site.old

@@ -433,32 +433,33 @@ never_rose one = by one.at one.was one.is one.stood one.stands one.rose
 
 -- the log of an update for which there was no memory
 abbrev pub nothing_logged : Log
-nothing_logged = record { read = []; removed = []; ran = []; ended = [] }
+nothing_logged = record { read = []; removed = []; ran = []; ended = []; steps = [] }
 
 -- where no rule was begun none lacks its end
 pub none_begun : (jobs : ℕ) → EndsFirst jobs nothing_logged
-none_begun jobs = record { rest = []; begun = record { all = IsPermutation-refl []; alone = λ _. refl } }
+none_begun jobs = record { left = []; others = []; begun = record { all = IsPermutation-refl []; alone = λ _. refl; steps = tt } }
 
 -- an update for which there was no memory before it began
-abbrev pub told_nothing : (jobs : ℕ) (site keep_going : Bool) (says : Log → List (Option (List ℕ)) → Type 0) → says nothing_logged [] → (w : World) → Told jobs site keep_going says w w []
-told_nothing jobs site keep_going says none w = record {
+abbrev pub told_nothing : (jobs : ℕ) (site keep_going : Bool) (says : Log → List (Option (List ℕ)) → Type 0) → says nothing_logged [] → (holds : Log → Option Stop → Type 0) → holds nothing_logged (Some (Outside NoMemory)) → (w : World) → Told jobs site keep_going says holds w w []
+told_nothing jobs site keep_going says none holds so w = record {
   log = nothing_logged;
   because = [];
   said = none;
   stopped = Some (Outside NoMemory);
   begun = refl;
   logged = none_begun jobs;
-  unopened = λ _. inr (record { world = inl refl; empty = record { read = refl; removed = refl; ran = refl; ended = refl } });
+  so = so;
+  unopened = λ _. inr (record { world = inl refl; empty = record { read = refl; removed = refl; ran = refl; ended = refl; steps = refl } });
 }
 
-pub prints_no_update : (jobs : ℕ) (site keep_going : Bool) (says : Log → List (Option (List ℕ)) → Type 0) → says nothing_logged [] → (hears : Log → Status → Status → Type 0) → hears nothing_logged Memory Memory → (w : World) (before now : ℕ) (held : List ℕ) →
-    PrintsUpdate jobs site keep_going says hears w w [] before now held held Memory
-prints_no_update jobs site keep_going says none hears unheard w before now held = record {
-  told = told_nothing jobs site keep_going says none w;
+pub prints_no_update : (jobs : ℕ) (site keep_going : Bool) (says : Log → List (Option (List ℕ)) → Type 0) → says nothing_logged [] → (holds : Log → Option Stop → Type 0) → holds nothing_logged (Some (Outside NoMemory)) → (hears : Log → Status → Status → Type 0) → hears nothing_logged Memory Memory → (w : World) (before now : ℕ) (held : List ℕ) →
+    PrintsUpdate jobs site keep_going says holds hears w w [] before now held held Memory
+prints_no_update jobs site keep_going says none holds so hears unheard w before now held = record {
+  told = told_nothing jobs site keep_going says none holds so w;
   status = Memory;
   heard = unheard;
   ends = inl refl;
-  prints = prints_nothing Memory (lines (told_nothing jobs site keep_going says none w).log [] Memory) before now held;
+  prints = prints_nothing Memory (lines (told_nothing jobs site keep_going says none holds so w).log [] Memory) before now held;
 }
 
 -- of an update that began no rule nothing is said
@@ -466,30 +467,31 @@ pub says_none : {S : Type 0} (site : Site S) (old : S) (explain : Bool) → Says
 says_none site old true = (([], refl), λ tells kept asked. ([], inl (refl, refl)))
 says_none site old false = (([], refl), λ tells kept asked. ([], inl (refl, refl)))
 
--- the lines of an update over a world that is this one, of whose rules and reporters less is said
-module _ (jobs : ℕ) (site keep_going : Bool) (P Q : Log → List (Option (List ℕ)) → Type 0) (H I : Log → Status → Status → Type 0) (was world left : World) (ran : List RuleName) (before now : ℕ) (old new : List ℕ) (answer : Status) where
-  abbrev told_less : Told jobs site keep_going P was left ran → ((log : Log) (chains : List (Option (List ℕ))) → P log chains → Q log chains) → Told jobs site keep_going Q was left ran
-  told_less told on = record {
+-- the lines of an update over a world that is this one, of whose rules, log and reporters less is said
+module _ (jobs : ℕ) (site keep_going : Bool) (P Q : Log → List (Option (List ℕ)) → Type 0) (J L : Log → Option Stop → Type 0) (H I : Log → Status → Status → Type 0) (was world left : World) (ran : List RuleName) (before now : ℕ) (old new : List ℕ) (answer : Status) where
+  abbrev told_less : Told jobs site keep_going P J was left ran → ((log : Log) (chains : List (Option (List ℕ))) → P log chains → Q log chains) → ((log : Log) (stopped : Option Stop) → J log stopped → L log stopped) → Told jobs site keep_going Q L was left ran
+  told_less told on holds = record {
     log = told.log;
     because = told.because;
     said = on told.log told.because told.said;
     stopped = told.stopped;
     begun = told.begun;
     logged = told.logged;
+    so = holds told.log told.stopped told.so;
     unopened = told.unopened;
   }
 
-  pub says_less : was ≡ world → PrintsUpdate jobs site keep_going P H was left ran before now old new answer → ((log : Log) (chains : List (Option (List ℕ))) → P log chains → Q log chains) → ((log : Log) (came status : Status) → H log came status → I log came status)
-      → PrintsUpdate jobs site keep_going Q I world left ran before now old new answer
-  says_less same given on hears =
-      let less : PrintsUpdate jobs site keep_going Q I was left ran before now old new answer = record {
-        told = told_less given.told on;
+  pub says_less : was ≡ world → PrintsUpdate jobs site keep_going P J H was left ran before now old new answer → ((log : Log) (chains : List (Option (List ℕ))) → P log chains → Q log chains) → ((log : Log) (stopped : Option Stop) → J log stopped → L log stopped) → ((log : Log) (came status : Status) → H log came status → I log came status)
+      → PrintsUpdate jobs site keep_going Q L I world left ran before now old new answer
+  says_less same given on holds hears =
+      let less : PrintsUpdate jobs site keep_going Q L I was left ran before now old new answer = record {
+        told = told_less given.told on holds;
         status = given.status;
         heard = hears given.told.log (status_of given.told.log given.told.stopped) given.status given.heard;
         ends = given.ends;
         prints = given.prints;
       } in
-      subst (λ (w : World). PrintsUpdate jobs site keep_going Q I w left ran before now old new answer) same less
+      subst (λ (w : World). PrintsUpdate jobs site keep_going Q L I w left ran before now old new answer) same less
 
 -- ---- how the store was gone on from
 

@@ -1,5 +1,6 @@
 -- A call that found no memory to read its words did nothing.
 use Rattle.std.proofs.Common.{◌≡◌, ℕ, Bool, true, false, List, [], Option, Some, Result, Ok, Err, inl, refl, sym, subst}
+use Rattle.std.specs.Prelude.{⊤}
 use Rattle.tup_site.specs.World.{World}
 use Rattle.tup_site.specs.declared.fault.SiteFailed.TheVariants.{Memory as NoMemory}
 use Rattle.tup_rule.specs.declared.rule.RuleName.{RuleName}
@@ -81,18 +82,18 @@ begun_nothing : (count : ℕ) (held : List ℕ) → PrintsBegun count count held
 begun_nothing count held = record { begun = Err graph.Memory; ends = inl refl; prints = prints_nothing Memory (begun_line Memory) count count held }
 
 -- and what is printed of an update then
-pub no_prints : (jobs : ℕ) (site keep_going explain : Bool) (says : Bool → Log → List (Option (List ℕ)) → Type 0) → ((explain : Bool) → says explain nothing_logged []) → (hears : Log → Status → Status → Type 0) → hears nothing_logged Memory Memory → (w : World) (ran : List RuleName) (count : ℕ) (held : List ℕ) → ran ≡ [] →
-    PrintsUpdate jobs site keep_going (says explain) hears w w ran count count held held Memory
-no_prints jobs site keep_going explain says unsaid hears unheard w ran count held none =
-    subst (λ (l : List RuleName). PrintsUpdate jobs site keep_going (says explain) hears w w l count count held held Memory) (sym none)
-    (prints_no_update jobs site keep_going (says explain) (unsaid explain) hears unheard w count count held)
+pub no_prints : (jobs : ℕ) (site keep_going explain : Bool) (says : Bool → Log → List (Option (List ℕ)) → Type 0) → ((explain : Bool) → says explain nothing_logged []) → (holds : Log → Option Stop → Type 0) → holds nothing_logged (Some (Outside NoMemory)) → (hears : Log → Status → Status → Type 0) → hears nothing_logged Memory Memory → (w : World) (ran : List RuleName) (count : ℕ) (held : List ℕ) → ran ≡ [] →
+    PrintsUpdate jobs site keep_going (says explain) holds hears w w ran count count held held Memory
+no_prints jobs site keep_going explain says unsaid holds so hears unheard w ran count held none =
+    subst (λ (l : List RuleName). PrintsUpdate jobs site keep_going (says explain) holds hears w w l count count held held Memory) (sym none)
+    (prints_no_update jobs site keep_going (says explain) (unsaid explain) holds so hears unheard w count count held)
 
 -- and of every call
-pub memory_prints : (jobs : ℕ) (site runner : Bool) (kept : Type 0) (says : Bool → Log → List (Option (List ℕ)) → Type 0) → ((explain : Bool) → says explain nothing_logged []) → (hears : Log → Status → Status → Type 0) → hears nothing_logged Memory Memory → (wanted : Wanted) (next : Next) (w : World) (ran : List RuleName) (count : ℕ) (held : List ℕ) → ran ≡ [] → Printed jobs site runner kept says hears wanted next w w ran count count held held Memory
-memory_prints jobs site runner kept says unsaid hears unheard (Ok (Upd program keep_going quiet verbose explain number log)) next w ran count held none =
-    no_prints jobs site keep_going explain says unsaid hears unheard w ran count held none
-memory_prints jobs site runner kept says unsaid hears unheard (Ok Init) next w ran count held none = begun_nothing count held
-memory_prints jobs site runner kept says unsaid hears unheard (Ok Todo) next w ran count held none = record {
+pub memory_prints : (jobs : ℕ) (site runner : Bool) (kept : Type 0) (says : Bool → Log → List (Option (List ℕ)) → Type 0) → ((explain : Bool) → says explain nothing_logged []) → (holds : Log → Option Stop → Type 0) → holds nothing_logged (Some (Outside NoMemory)) → (hears : Log → Status → Status → Type 0) → hears nothing_logged Memory Memory → (wanted : Wanted) (next : Next) (w : World) (ran : List RuleName) (count : ℕ) (held : List ℕ) → ran ≡ [] → Printed jobs site runner kept says holds hears wanted next w w ran count count held held Memory
+memory_prints jobs site runner kept says unsaid holds so hears unheard (Ok (Upd program keep_going quiet verbose explain number log)) next w ran count held none =
+    no_prints jobs site keep_going explain says unsaid holds so hears unheard w ran count held none
+memory_prints jobs site runner kept says unsaid holds so hears unheard (Ok Init) next w ran count held none = begun_nothing count held
+memory_prints jobs site runner kept says unsaid holds so hears unheard (Ok Todo) next w ran count held none = record {
   todo = Err (Outside NoMemory);
   lists = λ _. tt;
   status = Memory;
@@ -100,14 +101,14 @@ memory_prints jobs site runner kept says unsaid hears unheard (Ok Todo) next w r
   ends = inl refl;
   prints = prints_nothing Memory (last_line Memory) count count held;
 }
-memory_prints jobs site runner kept says unsaid hears unheard (Ok Verify) next w ran count held none = record {
+memory_prints jobs site runner kept says unsaid holds so hears unheard (Ok Verify) next w ran count held none = record {
   compared = Err (Outside NoMemory);
   has = λ _ _. tt;
   ends = inl refl;
   prints = prints_nothing Memory (compared_line Memory) count count held;
 }
-memory_prints jobs site runner kept says unsaid hears unheard (Ok Demo) next w ran count held none = ([], demo_world, prints_no_update 1 true false (λ log chains. chains ≡ []) refl hears_none (inl refl) demo_world count count held)
-memory_prints jobs site runner kept says unsaid hears unheard (Err place) next w ran count held none = prints_nothing (Usage place) (last_line (Usage place)) count count held
+memory_prints jobs site runner kept says unsaid holds so hears unheard (Ok Demo) next w ran count held none = ([], demo_world, prints_no_update 1 true false (λ log chains. chains ≡ []) refl (λ log stopped. ⊤) tt hears_none (inl refl) demo_world count count held)
+memory_prints jobs site runner kept says unsaid holds so hears unheard (Err place) next w ran count held none = prints_nothing (Usage place) (last_line (Usage place)) count count held
 
 -- what its log says
 pub no_logs : (jobs : ℕ) (keep_going : Bool) (ran : List RuleName) → ran ≡ [] → Logs jobs keep_going ran (Some (Outside NoMemory))
@@ -119,7 +120,7 @@ memory_logs wanted jobs keep_going ran none = memory_for_update wanted (Logs job
 -- how the store was gone on from
 pub no_opening : (w : World) (ran : List RuleName) → ran ≡ [] → OpensStore w w ran (Some (Outside NoMemory))
 no_opening w ran none =
-    let told = told_nothing 1 true false (λ log chains. chains ≡ []) refl w in
+    let told = told_nothing 1 true false (λ log chains. chains ≡ []) refl (λ log stopped. ⊤) tt w in
     opens_so w w ran told.log (sym none) (Some (Outside NoMemory)) (told.unopened refl)
 
 pub memory_opens : (wanted : Wanted) (w : World) (ran : List RuleName) → ran ≡ [] → ForUpdate wanted Memory (OpensStore w w ran)
@@ -128,7 +129,7 @@ memory_opens wanted w ran none = memory_for_update wanted (OpensStore w w ran) (
 -- and that no more is to be run than was due
 pub memory_found_out : (wanted : Wanted) (kept : Type 0) (w : World) → (kept → FlagsWhatWasDue w w) → ForTodo wanted Memory (FindsOut kept w w)
 memory_found_out wanted kept w flagged =
-    let told = told_nothing 1 true false (λ log chains. chains ≡ []) refl w in
+    let told = told_nothing 1 true false (λ log chains. chains ≡ []) refl (λ log stopped. ⊤) tt w in
     memory_for_todo wanted (FindsOut kept w w)
     (record {
       opens = opens_so w w [] told.log refl (Some (Outside NoMemory)) (told.unopened refl);

@@ -1,5 +1,6 @@
 pub mod Told
 pub mod Causes
+pub mod True
 pub mod Reported
 pub mod Idle
 pub mod Success
@@ -11,4 +12,5 @@ pub mod Shown
 pub mod Demo
 pub mod Untouched
 pub mod Foreseen
+mod EachTold
 mod Behind

@@ -1,7 +1,7 @@
 -- How an update ends whose reporters were told before its lines were printed.
 use Rattle.std.proofs.Common.{◌≡◌, ◌==◌, inl, inr, ℕ, Bool, Err, IsTrue, true, false, List, [], ◌∷◌, append-nil, Option, None, Some, refl, sym, subst, ◌∙◌}
 use Rattle.std.proofs.lemmas.Bool.{false≢true}
-use Rattle.std.specs.Prelude.{length}
+use Rattle.std.specs.Prelude.{⊤, length}
 use Rattle.tup_site.specs.World.{World}
 use Rattle.tup_site.specs.declared.fault.SiteFailed.TheVariants.{Fault, TooLarge, Memory as NoMemory}
 use Rattle.tup_rule.specs.declared.rule.RuleName.{RuleName}
@@ -146,24 +146,25 @@ module _ {T : Type 0} (told : T → List Event) (faults : T → ℕ) where
       by false tells is = inr is
 
   -- so are the lines of a demo, which has none
-  pub unheard_prints : (old kept failed : List T) → old ≡ [] → (jobs : ℕ) → jobs ≡ 1 → (says : Log → List (Option (List ℕ)) → Type 0) (was left : World) (ran : List RuleName) (before now : ℕ) (held grown : List ℕ) (answer : Status)
-      → ((log : Log) (chains : List (Option (List ℕ))) → says log chains → chains ≡ []) → was ≡ demo_world → PrintsUpdate jobs true false says (Hears told faults old kept failed) was left ran before now held grown answer
-      → PrintsUpdate 1 true false (λ log chains. chains ≡ []) hears_none demo_world left ran before now held grown answer
-  unheard_prints old kept failed none jobs one says was left ran before now held grown answer unsaid same given =
-      says_less 1 true false says (λ log chains. chains ≡ []) (Hears told faults old kept failed) hears_none was demo_world left ran before now held grown answer same
-      (subst (λ (n : ℕ). PrintsUpdate n true false says (Hears told faults old kept failed) was left ran before now held grown answer) one given) unsaid (heard_none old kept failed none)
+  pub unheard_prints : (old kept failed : List T) → old ≡ [] → (jobs : ℕ) → jobs ≡ 1 → (says : Log → List (Option (List ℕ)) → Type 0) (holds : Log → Option Stop → Type 0) (was left : World) (ran : List RuleName) (before now : ℕ) (held grown : List ℕ) (answer : Status)
+      → ((log : Log) (chains : List (Option (List ℕ))) → says log chains → chains ≡ []) → was ≡ demo_world → PrintsUpdate jobs true false says holds (Hears told faults old kept failed) was left ran before now held grown answer
+      → PrintsUpdate 1 true false (λ log chains. chains ≡ []) (λ log stopped. ⊤) hears_none demo_world left ran before now held grown answer
+  unheard_prints old kept failed none jobs one says holds was left ran before now held grown answer unsaid same given =
+      says_less 1 true false says (λ log chains. chains ≡ []) holds (λ log stopped. ⊤) (Hears told faults old kept failed) hears_none was demo_world left ran before now held grown answer same
+      (subst (λ (n : ℕ). PrintsUpdate n true false says holds (Hears told faults old kept failed) was left ran before now held grown answer) one given) unsaid (λ log stopped so. tt) (heard_none old kept failed none)
 
 -- ---- an update for which there was no memory before it began
 
-pub tells_nothing : (jobs : ℕ) (site keep_going : Bool) (hears : Log → Status → Status → Type 0) → hears nothing_logged Memory Memory → (w : World) (ran : List RuleName) → ran ≡ [] → (before now : ℕ)
-    → TellsUpdate jobs site keep_going hears w w ran before now Memory
-tells_nothing jobs site keep_going hears heard w ran none before now =
-    let told = told_nothing jobs site keep_going (λ log chains. chains ≡ []) refl w in
+pub tells_nothing : (jobs : ℕ) (site keep_going : Bool) (holds : Log → Option Stop → Type 0) → holds nothing_logged (Some (Outside NoMemory)) → (hears : Log → Status → Status → Type 0) → hears nothing_logged Memory Memory → (w : World) (ran : List RuleName) → ran ≡ [] → (before now : ℕ)
+    → TellsUpdate jobs site keep_going holds hears w w ran before now Memory
+tells_nothing jobs site keep_going holds so hears heard w ran none before now =
+    let told = told_nothing jobs site keep_going (λ log chains. chains ≡ []) refl holds so w in
     record {
       log = nothing_logged;
       stopped = Some (Outside NoMemory);
       begun = sym none;
       logged = told.logged;
+      so = so;
       unopened = told.unopened;
       status = Memory;
       heard = heard;

@@ -1,5 +1,6 @@
 -- What a demo answers whose small project couldn't begin: there was no memory.
 use Rattle.std.proofs.Common.{◌≡◌, refl, inl, inr, ℕ, true, false, List, [], Err, sym, ap, subst, ◌∙◌}
+use Rattle.std.specs.Prelude.{⊤}
 use Rattle.tup_graph.specs.declared.fault.GraphFault.{GraphFault}
 use Rattle.tup_graph.specs.declared.fault.GraphFault.TheVariants as graph
 use Rattle.tup_top.specs.Lines.{last_line}
@@ -31,7 +32,7 @@ module _ (before now : ℕ) (fault : GraphFault) (status answer : Status) (memor
     [],
     demo_world,
     record {
-      told = told_nothing 1 true false (λ log chains. chains ≡ []) refl demo_world;
+      told = told_nothing 1 true false (λ log chains. chains ≡ []) refl (λ log stopped. ⊤) tt demo_world;
       status = Memory;
       heard = inl refl;
       ends = ends_so;

@@ -23,7 +23,7 @@ use Rattle.tup_top.proofs.Causes.{came, came_on, done_is_none, failed_once, of_o
 
 -- the log of nothing
 no_log : Log
-no_log = record { read = []; removed = []; ran = []; ended = [] }
+no_log = record { read = []; removed = []; ran = []; ended = []; steps = [] }
 
 -- what came of an update that is answered so came of a comparison
 same_came : (P : Result Compared Stop → Type 0) (status : Status) → IfCame status (λ stopped. P (of_stop stopped)) → IfCompared status P

@@ -56,8 +56,9 @@ SaysWhyOf {S} site old explain log chains =
     OfEnded log (λ ended. CountsChains explain ended chains) × (IsTrue site.tells → IsKeptBySome site old → IsTrue explain → OfEnded log (λ ended. AreExplained site old ended chains))
 
 -- What an update by so many runners told of itself that began these rules, was to go on after a bad verdict or not, said this of why
--- they were run, and led from one world to another. The site tells its worlds or doesn't: what the log says by why it stopped is said of every site.
-pub record Told (jobs : ℕ) (site keep_going : Bool) (says : Log → List (Option (List ℕ)) → Type 0) (old new : World) (ran : List RuleName) : Type 0 where
+-- they were run, and led from one world to another; and what holds of its log by why it stopped. The site tells its worlds or doesn't: what
+-- the log says by why it stopped is said of every site.
+pub record Told (jobs : ℕ) (site keep_going : Bool) (says : Log → List (Option (List ℕ)) → Type 0) (holds : Log → Option Stop → Type 0) (old new : World) (ran : List RuleName) : Type 0 where
   pub log : Log
   -- why the rules of `log.ended` were run, in their order
   pub because : List (Option (List ℕ))
@@ -65,12 +66,13 @@ pub record Told (jobs : ℕ) (site keep_going : Bool) (says : Log → List (Opti
   pub stopped : Option Stop
   pub begun : log.ran ≡ ran
   pub logged : IsLogged jobs keep_going log stopped
+  pub so : holds log stopped
   pub unopened : IsTrue site → Unopened old new log stopped
 
 -- The lines of such an update. They end with a status of which this is so by the log and by what the update came to: reporters may
 -- have failed.
-pub record PrintsUpdate (jobs : ℕ) (site keep_going : Bool) (says : Log → List (Option (List ℕ)) → Type 0) (hears : Log → Status → Status → Type 0) (world left : World) (ran : List RuleName) (before now : ℕ) (old new : List ℕ) (answer : Status) : Type 0 where
-  pub told : Told jobs site keep_going says world left ran
+pub record PrintsUpdate (jobs : ℕ) (site keep_going : Bool) (says : Log → List (Option (List ℕ)) → Type 0) (holds : Log → Option Stop → Type 0) (hears : Log → Status → Status → Type 0) (world left : World) (ran : List RuleName) (before now : ℕ) (old new : List ℕ) (answer : Status) : Type 0 where
+  pub told : Told jobs site keep_going says holds world left ran
   pub status : Status
   pub heard : hears told.log (status_of told.log told.stopped) status
   pub ends : Ends before now status answer
@@ -87,8 +89,9 @@ pub record PrintsComparison (site runner : Bool) (next : Next) (world : World) (
   pub ends : Ends before now (status_of_compared compared) answer
   pub prints : Prints (status_of_compared compared) (compared_line (status_of_compared compared)) before now old new answer
 
--- The lines of what an update would do. Over a kept site they list the rules that are due and the files that no rule makes any more.
--- They end with a status of which this is so by the folders that were read and by what was found out: reporters may have failed.
+-- The lines of what an update would do. Over a kept site they list just the folders whose Tupfile had to be read, the files that no rule
+-- makes any more, and the rules that are due. They end with a status of which this is so by the folders that were read and by what was
+-- found out: reporters may have failed.
 pub record PrintsTodo (kept : Type 0) (hears : Log → Status → Status → Type 0) (world left : World) (before now : ℕ) (old new : List ℕ) (answer : Status) : Type 0 where
   pub todo : Result TodoLists Stop
   pub lists : kept → IfOk todo (ListsWhatIsDue world left)
@@ -109,14 +112,14 @@ demo_world = record { tree = demo_tree; store = header ++ 0 ∷ [] }
 
 -- the lines of the update that a demo shows, over a site of its own
 abbrev pub PrintsDemo : ℕ → ℕ → List ℕ → List ℕ → Status → Type 0
-PrintsDemo before now old new answer = (ran : List RuleName) × (left : World) × PrintsUpdate 1 true false (λ log chains. chains ≡ []) hears_none demo_world left ran before now old new answer
+PrintsDemo before now old new answer = (ran : List RuleName) × (left : World) × PrintsUpdate 1 true false (λ log chains. chains ≡ []) (λ log stopped. ⊤) hears_none demo_world left ran before now old new answer
 
 -- the lines of what was asked for: of the update, of what it would do where the site is kept, of the beginning, of the comparison, of
 -- the demo's update, or the line of the refusal. The first number says by how many runners an update goes.
-abbrev pub Printed : ℕ → Bool → Bool → Type 0 → (Bool → Log → List (Option (List ℕ)) → Type 0) → (Log → Status → Status → Type 0) → Wanted → Next → World → World → List RuleName → ℕ → ℕ → List ℕ → List ℕ → Status → Type 0
-Printed jobs site runner kept says hears (Ok (Upd program keep_going quiet verbose explain number log)) next world left ran before now old new answer = PrintsUpdate jobs site keep_going (says explain) hears world left ran before now old new answer
-Printed jobs site runner kept says hears (Ok Init) next world left ran before now old new answer = PrintsBegun before now old new answer
-Printed jobs site runner kept says hears (Ok Todo) next world left ran before now old new answer = PrintsTodo kept hears world left before now old new answer
-Printed jobs site runner kept says hears (Ok Verify) next world left ran before now old new answer = PrintsComparison site runner next world before now old new answer
-Printed jobs site runner kept says hears (Ok Demo) next world left ran before now old new answer = PrintsDemo before now old new answer
-Printed jobs site runner kept says hears (Err place) next world left ran before now old new answer = Prints (Usage place) (last_line (Usage place)) before now old new answer
+abbrev pub Printed : ℕ → Bool → Bool → Type 0 → (Bool → Log → List (Option (List ℕ)) → Type 0) → (Log → Option Stop → Type 0) → (Log → Status → Status → Type 0) → Wanted → Next → World → World → List RuleName → ℕ → ℕ → List ℕ → List ℕ → Status → Type 0
+Printed jobs site runner kept says holds hears (Ok (Upd program keep_going quiet verbose explain number log)) next world left ran before now old new answer = PrintsUpdate jobs site keep_going (says explain) holds hears world left ran before now old new answer
+Printed jobs site runner kept says holds hears (Ok Init) next world left ran before now old new answer = PrintsBegun before now old new answer
+Printed jobs site runner kept says holds hears (Ok Todo) next world left ran before now old new answer = PrintsTodo kept hears world left before now old new answer
+Printed jobs site runner kept says holds hears (Ok Verify) next world left ran before now old new answer = PrintsComparison site runner next world before now old new answer
+Printed jobs site runner kept says holds hears (Ok Demo) next world left ran before now old new answer = PrintsDemo before now old new answer
+Printed jobs site runner kept says holds hears (Err place) next world left ran before now old new answer = Prints (Usage place) (last_line (Usage place)) before now old new answer

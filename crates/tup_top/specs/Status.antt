@@ -109,8 +109,8 @@ status_of_todo (Err stop) = status_of_stop stop
 
 -- the log of finding out what an update would do: the folders that it read; where it was stopped, none
 abbrev pub log_of_todo : Result Todo Stop → Log
-log_of_todo (Ok todo) = record { read = todo.read; removed = []; ran = []; ended = [] }
-log_of_todo (Err stop) = record { read = []; removed = []; ran = []; ended = [] }
+log_of_todo (Ok todo) = record { read = todo.read; removed = []; ran = []; ended = []; steps = [] }
+log_of_todo (Err stop) = record { read = []; removed = []; ran = []; ended = []; steps = [] }
 
 -- the status of a comparison of the files with a clean build
 abbrev pub status_of_compared : Result Compared Stop → Status

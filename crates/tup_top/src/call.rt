@@ -28,6 +28,7 @@ ghost use Rattle.tup_top.specs.Promise.{Lasts, Logs, NothingDone};
 ghost use Rattle.tup_top.specs.Promise.{OnceDone, OpensStore, QuietStep, Spares};
 ghost use Rattle.tup_top.specs.Promise.{HasPlainCause, IsRefusal, Initializes, Compares, counts};
 ghost use Rattle.tup_top.specs.Telling.{Hears, TellsTodo, TellsUpdate};
+ghost use Rattle.tup_top.specs.Truth.{IsTrueLog};
 ghost use Rattle.tup_top.specs.declared.status.Status.TheVariants.{TellFault, Usage};
 
 use crate::init::init;
@@ -203,19 +204,21 @@ pub fn tup<W: Threads + Wait + Sync, S: Site + Send, R: Runner + Send, T: Report
         let old = S.world site in let new = S.world result.site in
         let kept = IsTrue S.tells × IsKeptBySome S.Site.own site in
         let says = SaysWhyOf S.Site.own site in
+        let holds = IsTrueLog S.Site.own R.Runner.own site in
         let jobs = used (order words.now) (length crew.items) in
         let hears = Hears T.told T.faults tellers.old.items tellers.new.items result.failed.items in
-        Printed jobs S.tells R.tells kept says hears (order words.now) R.next old new result.ran
-        before now (K.held out.old) (K.held out.new) result.status }
+        Printed jobs S.tells R.tells kept says holds hears (order words.now) R.next old new
+        result.ran before now (K.held out.old) (K.held out.new) result.status }
     // What reporters were told of an update, or of finding out what it would do, wherever its lines
     // went. A reporter is blamed only where one failed, and any other order leaves them as they were.
     ensures tells { IsUpdate (order words.now)
         → let before = K.faults out.old in let now = K.faults out.new in
         let old = S.world site in let new = S.world result.site in
         let jobs = used (order words.now) (length crew.items) in
+        let holds = IsTrueLog S.Site.own R.Runner.own site in
         let hears = Hears T.told T.faults tellers.old.items tellers.new.items result.failed.items in
-        TellsUpdate jobs S.tells (goes_on (order words.now)) hears old new result.ran before now
-        result.status }
+        TellsUpdate jobs S.tells (goes_on (order words.now)) holds hears old new result.ran
+        before now result.status }
     ensures tells_todo { IsTodo (order words.now)
         → let before = K.faults out.old in let now = K.faults out.new in
         let old = S.world site in let new = S.world result.site in

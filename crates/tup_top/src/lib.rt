@@ -22,3 +22,4 @@ pub use call::{Ran, tup};
 pub use options::{jobs_in, joined_jobs};
 pub use order::{Order, OrderFault, Word, order_of};
 pub use status::{Status, What};
+pub use telling::each_rule_is_told;

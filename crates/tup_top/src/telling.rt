@@ -1,15 +1,14 @@
 //! What reporters are told of an update, or of what it would do, and how these end then.
-ghost use Rattle.std.specs.Prelude.{◌≡◌, ◌++◌, ◌∷◌, [], false, map, IfOk, IsTrue, OnOk};
-ghost use Rattle.std.specs.List.{flat_map};
+ghost use Rattle.std.specs.Prelude.{◌≡◌, ◌++◌, [], false, drop, map, take, IfOk, IsTrue, OnOk};
 ghost use Rattle.tup_tell.specs.Parted.{AreCutOff, AreTold};
-ghost use Rattle.tup_tell.specs.declared.event.Event.TheVariants.{Ended, Read, Removed, Started};
+ghost use Rattle.tup_tell.specs.declared.event.Event.TheVariants.{Read, Removed, Started};
 ghost use Rattle.tup_top.specs.Status.{after_tell_fault as fault_after, after_telling as answer_after};
 ghost use Rattle.tup_top.specs.Telling as specs;
 
 use crate::status::Status;
 use std::alloc::{AllocError, Global};
 use tup_path::Path;
-use tup_promise::{EndedRule, Log};
+use tup_promise::{EndedRule, Log, Step};
 use tup_rule::RuleName;
 use tup_tell::{Event, Reporter, Telling, tell};
 
@@ -43,6 +42,11 @@ pub(crate) fn hear<T: Reporter>(alloc: Global, log: &Log, tellers: &mut Vec<T>) 
         },
     }
 }
+
+/// A law: the events of an update tell each rule that was begun, and each that ended, in the order of its log.
+pub fn each_rule_is_told()
+    ensures { specs.EachIsTold }
+{}
 
 /// Tells each reporter that these folders were read. Without reporters it takes no memory.
 pub(crate) fn hear_read<T: Reporter>(
@@ -100,14 +104,19 @@ fn after_tell_fault(came: Status) -> Status
     }
 }
 
-/// The events of an update with this log, in the order of its lines.
+/// The events of an update with this log.
 fn events(alloc: Global, log: &Log) -> Result<Vec<Event>, AllocError>
     ensures { IfOk result (λ events. events.items ≡ specs.events_of log.now) }
 {
     let mut events = Vec::new(alloc);
     add_read(&mut events, log.read.as_slice())?;
     add_removed(&mut events, log.removed.as_slice())?;
-    add_ended(&mut events, log.ended.as_slice())?;
+    add_steps(
+        &mut events,
+        log.steps.as_slice(),
+        log.ran.as_slice(),
+        log.ended.as_slice(),
+    )?;
     Ok(events)
 }
 
@@ -142,45 +151,58 @@ fn add_removed(events: &mut Vec<Event>, paths: &[Path]) -> Result<(), AllocError
     Ok(())
 }
 
-/// Adds the events of each rule that ended.
-fn add_ended(events: &mut Vec<Event>, ended: &[EndedRule]) -> Result<(), AllocError>
-    ensures { OnOk result
-        (events.new.items ≡ events.old.items ++ flat_map specs.run_events ended.now) }
+/// Adds the events of the rules that were begun and of those that ended, as these steps followed each other.
+fn add_steps(
+    events: &mut Vec<Event>,
+    steps: &[Step],
+    mut begun: &[RuleName],
+    mut ended: &[EndedRule],
+) -> Result<(), AllocError>
+    ensures { OnOk result (events.new.items
+        ≡ events.old.items ++ specs.step_events steps.now begun.now ended.now) }
 {
-    for one in ended {
-        add_run(events, one)?;
+    for step in steps {
+        match step {
+            Step::Begin => begun = add_begin(events, begun)?,
+            Step::End => ended = add_end(events, ended)?,
+        }
     }
     Ok(())
 }
 
-/// Adds the events of a rule that ended.
-fn add_run(events: &mut Vec<Event>, ended: &EndedRule) -> Result<(), AllocError>
-    ensures { OnOk result
-        (events.new.items ≡ events.old.items ++ specs.run_events ended.now) }
+/// Adds that the next of these rules was begun, if there is one, and gives those behind it.
+fn add_begin<'r>(
+    events: &mut Vec<Event>,
+    begun: &'r [RuleName],
+) -> Result<&'r [RuleName], AllocError>
+    ensures added { OnOk result
+        (events.new.items ≡ events.old.items ++ map Started (take 1 begun.now)) }
+    ensures behind { IfOk result (λ behind. behind.now ≡ drop 1 begun.now) }
 {
-    add_start(events, &ended.rule)?;
-    add_end(events, ended)?;
-    Ok(())
-}
-
-/// Adds that a rule was begun.
-fn add_start(events: &mut Vec<Event>, rule: &RuleName) -> Result<(), AllocError>
-    ensures { OnOk result (events.new.items ≡ events.old.items ++ Started rule.now ∷ []) }
-{
+    let Some((rule, behind)) = begun.split_first() else {
+        return Ok(begun);
+    };
     events.push(Event::Started {
         rule: rule.clone()?,
     })?;
-    Ok(())
+    Ok(behind)
 }
 
-/// Adds what a rule came to.
-fn add_end(events: &mut Vec<Event>, ended: &EndedRule) -> Result<(), AllocError>
-    ensures { OnOk result (events.new.items
-        ≡ events.old.items ++ Ended ended.now.rule ended.now.verdict ∷ []) }
+/// Adds what the next of these rules came to, if there is one, and gives those behind it.
+fn add_end<'r>(
+    events: &mut Vec<Event>,
+    ended: &'r [EndedRule],
+) -> Result<&'r [EndedRule], AllocError>
+    ensures added { OnOk result
+        (events.new.items ≡ events.old.items ++ map specs.end_event (take 1 ended.now)) }
+    ensures behind { IfOk result (λ behind. behind.now ≡ drop 1 ended.now) }
 {
+    let Some((one, behind)) = ended.split_first() else {
+        return Ok(ended);
+    };
     events.push(Event::Ended {
-        rule: ended.rule.clone()?,
-        verdict: ended.verdict.clone()?,
+        rule: one.rule.clone()?,
+        verdict: one.verdict.clone()?,
     })?;
-    Ok(())
+    Ok(behind)
 }

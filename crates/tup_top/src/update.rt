@@ -25,6 +25,7 @@ ghost use Rattle.tup_top.specs.Promise.{HasCrewCause, HasDemoCause, Logs, OnceDo
 ghost use Rattle.tup_top.specs.Promise.{OpensStore, Spares, counts};
 ghost use Rattle.tup_top.specs.Status.{IfCame, status_of as told_by};
 ghost use Rattle.tup_top.specs.Telling.{Hears, Reports, TellsUpdate};
+ghost use Rattle.tup_top.specs.Truth.{IsTrueLog};
 ghost use Rattle.tup_top.specs.declared.status.Status.TheVariants.{TellFault};
 
 use crate::parting::{part_off, rejoined};
@@ -130,14 +131,17 @@ pub(crate) fn update_by<
         → let before = K.faults out.old in let now = K.faults out.new in
         let old = S.world site in let new = S.world result.site in
         let says = SaysWhyOf S.Site.own site asked.explain in
+        let holds = IsTrueLog S.Site.own R.Runner.own site in
         let hears = Hears T.told T.faults tellers.old.items tellers.new.items result.failed.items in
-        PrintsUpdate jobs S.tells asked.keep_going says hears old new result.ran before now
+        PrintsUpdate jobs S.tells asked.keep_going says holds hears old new result.ran before now
         (K.held out.old) (K.held out.new) result.status }
     // What its reporters were told, wherever its lines went.
     ensures tells { let before = K.faults out.old in let now = K.faults out.new in
         let old = S.world site in let new = S.world result.site in
+        let holds = IsTrueLog S.Site.own R.Runner.own site in
         let hears = Hears T.told T.faults tellers.old.items tellers.new.items result.failed.items in
-        TellsUpdate jobs S.tells asked.keep_going hears old new result.ran before now result.status }
+        TellsUpdate jobs S.tells asked.keep_going holds hears old new result.ran before now
+        result.status }
     ensures blamed_reporter { result.status ≡ TellFault → result.failed.items ≡ [] → ⊥ }
     ensures crew { length result.crew.items ≡ length crew.items }
     ensures others { drop jobs result.crew.items ≡ drop jobs crew.items }
@@ -237,15 +241,17 @@ pub(crate) fn update<
         → let before = K.faults out.old in let now = K.faults out.new in
         let old = S.world site in let new = S.world result.site in
         let says = SaysWhyOf S.Site.own site asked.explain in
+        let holds = IsTrueLog S.Site.own R.Runner.own site in
         let hears = Hears T.told T.faults tellers.old.items tellers.new.items result.failed.items in
-        PrintsUpdate (length crew.items) S.tells asked.keep_going says hears old new result.ran
+        PrintsUpdate (length crew.items) S.tells asked.keep_going says holds hears old new result.ran
         before now (K.held out.old) (K.held out.new) result.status }
     // What its reporters were told, wherever its lines went.
     ensures tells { let before = K.faults out.old in let now = K.faults out.new in
         let old = S.world site in let new = S.world result.site in
+        let holds = IsTrueLog S.Site.own R.Runner.own site in
         let hears = Hears T.told T.faults tellers.old.items tellers.new.items result.failed.items in
-        TellsUpdate (length crew.items) S.tells asked.keep_going hears old new result.ran before now
-        result.status }
+        TellsUpdate (length crew.items) S.tells asked.keep_going holds hears old new result.ran
+        before now result.status }
     ensures blamed_reporter { result.status ≡ TellFault → result.failed.items ≡ [] → ⊥ }
     ensures nobody { tellers.old.items ≡ [] → result.failed.items ≡ [] }
     ensures crew { length result.crew.items ≡ length crew.items }

@@ -87,7 +87,7 @@ kept_stop plan state cause is = by plan.keep_going
     by true = is
     by false = ap (λ (s : Option Cause). Some (unwrap_or s Bad)) is
 
-stop_stays : (plan : Plan) (state : State) (at : ℕ) (verdict : Verdict) (written : List (Names × Stamp)) (cause : Cause) → state.stopped ≡ Some cause → (ended plan state at verdict written).stopped ≡ Some cause
+pub stop_stays : (plan : Plan) (state : State) (at : ℕ) (verdict : Verdict) (written : List (Names × Stamp)) (cause : Cause) → state.stopped ≡ Some cause → (ended plan state at verdict written).stopped ≡ Some cause
 stop_stays plan state at Good written cause is = is
 stop_stays plan state at (Failed status) written cause is = kept_stop plan state cause is
 stop_stays plan state at (IllegalRead text) written cause is = kept_stop plan state cause is
@@ -462,7 +462,7 @@ module _ (plan : Plan) where
       ]
 
   -- what the end of a command notes
-  noted_ended : (state : State) (at : ℕ) (verdict : Verdict) (written : List (Names × Stamp)) (number : ℕ) →
+  pub noted_ended : (state : State) (at : ℕ) (verdict : Verdict) (written : List (Names × Stamp)) (number : ℕ) →
       (((ended plan state at verdict written).bad number ≡ state.bad number) × ((number ≡ at → ⊥) ⊎ (is_good (Some verdict) ≡ true)))
       ⊎ ((number ≡ at) × ((ended plan state at verdict written).bad number ≡ Some verdict) × (is_good (Some verdict) ≡ false))
   noted_ended state at Good written number = inl (refl, inr refl)

@@ -10,5 +10,9 @@ mod Claimed
 mod Working
 mod Ending
 mod Telling
+mod Interleaving
+mod Stepping
 mod Logging
+mod BadEnds
+mod Done
 pub mod Chained

@@ -34,7 +34,9 @@ use Rattle.tup_board.specs.declared.answers.Drained.{Drained}
 use Rattle.tup_board.specs.declared.answers.Drained.TheVariants.{Done, Left}
 use Rattle.tup_phases.specs.Logged.{AreBegun, AreGood, AreGoodBefore, BeginsNone, EndsBadly, EndsFirst, EndsSoon, EndsWell as LogEndsWell, IsCutOff, IsLogged, ended_rules}
 use Rattle.tup_promise.specs.declared.log.EndedRule.{EndedRule}
+use Rattle.tup_promise.specs.Interleaved.{Interleave}
 use Rattle.tup_promise.specs.declared.log.Log.{Log}
+use Rattle.tup_promise.specs.declared.log.Step.{Step}
 use Rattle.tup_promise.specs.declared.stop.Stop.{Stop}
 use Rattle.tup_promise.specs.declared.stop.Stop.TheVariants as stop
 use Rattle.tup_phases.specs.Prepared.{LogsBefore, StopsBefore}
@@ -43,10 +45,12 @@ use Rattle.tup_phases.specs.Spared.{LeavesTree}
 use Rattle.tup_update.specs.Ended.{TellsAll, TellsFor, TellsFront, ends, nothing_claimed, numbers, told_ends, told_of}
 use Rattle.tup_update.specs.Names.{name_in}
 use Rattle.tup_update.specs.Run.{IsEnd, StopsBy, StopsRunning}
+use Rattle.tup_update.specs.Steps.{steps_of}
 use Rattle.tup_update.proofs.Counting.{left_for}
 use Rattle.tup_update.proofs.Claimed.{Knows, knows_none}
 use Rattle.tup_update.proofs.Ending.{EndsWell, GoodBefore, IsBelow, IsNoted, Own, all_begun, all_seats, cut_off, good_before, none_cut, none_noted, noted_ends, own_begun}
 use Rattle.tup_update.proofs.FirstBad.{bad_is_there}
+use Rattle.tup_update.proofs.Interleaving.{interleave_map, run_interleaves}
 use Rattle.tup_update.proofs.Telling.{End, HasOne, all_back, all_front, front_apart, good_among, name_or, rules_in, taken_names, told_all_names, told_good, told_many, told_split}
 use Rattle.tup_update.proofs.Working.{at_work, work_none}
 
@@ -100,7 +104,7 @@ ended_once plan files history run once reached =
     ]
 
 module _ (plan : Plan) (files : List (PathNames × Stamp)) (events : List CoreEvent) (run : IsRun plan (opening plan files) events) (jobs : ℕ) (below : All (IsBelow jobs) events)
-    (over : (seat : ℕ) → (end_of plan (opening plan files) events).seats seat ≡ None) (log : Log) (named : map Some log.ran ≡ map (name_in plan.rules) (claims events)) where
+    (over : (seat : ℕ) → (end_of plan (opening plan files) events).seats seat ≡ None) (log : Log) (named : map Some log.ran ≡ map (name_in plan.rules) (claims events)) (stepped : log.steps ≡ steps_of events) where
   abbrev final : State
   final = end_of plan (opening plan files) events
 
@@ -144,23 +148,37 @@ module _ (plan : Plan) (files : List (PathNames × Stamp)) (events : List CoreEv
   have : All (HasOne plan.rules) (numbers list)
   have = all_front (HasOne plan.rules) (numbers list) cut have_all
 
-  -- those of the rules that ended and of those that were cut off
+  -- those of the rules that ended
+  ended_are : (rest : List EndedRule) → log.ended ++ rest ≡ told → map (name_or plan.rules) (numbers list) ≡ ended_rules log ++ rules_in rest
+  ended_are rest parts = sym (told_all_names plan.rules list have) ∙ ap rules_in (sym parts) ∙ map-append (λ (one : EndedRule). one.rule) log.ended rest
+
+  -- and of those that were cut off
   names_are : (rest : List EndedRule) → log.ended ++ rest ≡ told → map (name_or plan.rules) (numbers list ++ cut) ≡ ended_rules log ++ (rules_in rest ++ cut_names)
   names_are rest parts =
       map-append (name_or plan.rules) (numbers list) cut
-      ∙ ap (λ (front : List RuleName). front ++ cut_names) (sym (told_all_names plan.rules list have) ∙ ap rules_in (sym parts) ∙ map-append (λ (one : EndedRule). one.rule) log.ended rest)
+      ∙ ap (λ (front : List RuleName). front ++ cut_names) (ended_are rest parts)
       ∙ append_assoc (ended_rules log) (rules_in rest) cut_names
 
-  begun : (rest : List EndedRule) → log.ended ++ rest ≡ told → AreBegun jobs log (rules_in rest ++ cut_names)
+  -- how they followed each other
+  follow : (rest : List EndedRule) → log.ended ++ rest ≡ told → Interleave jobs [] log.steps log.ran (ended_rules log ++ rules_in rest)
+  follow rest parts =
+      let ended = ended_rules log ++ rules_in rest in
+      subst (λ (steps : List Step). Interleave jobs [] steps log.ran ended) (sym stepped)
+      (subst (λ (ran : List RuleName). Interleave jobs [] (steps_of events) ran ended) (sym taken.0)
+      (subst (λ (ends : List RuleName). Interleave jobs [] (steps_of events) (map (name_or plan.rules) (claims events)) ends) (ended_are rest parts)
+      (interleave_map (name_or plan.rules) jobs (steps_of events) [] (claims events) (numbers list) (run_interleaves plan jobs files events below run))))
+
+  begun : (rest : List EndedRule) → log.ended ++ rest ≡ told → AreBegun jobs log (rules_in rest) cut_names
   begun rest parts = record {
     all =
         subst (λ (ran : List RuleName). IsPermutation ran (ended_rules log ++ (rules_in rest ++ cut_names))) (sym taken.0)
         (subst (IsPermutation (map (name_or plan.rules) (claims events))) (names_are rest parts) (IsPermutation-map (name_or plan.rules) (claims events) (numbers list ++ cut) all_are));
     alone = λ one. taken.0 ∙ ap (map (name_or plan.rules)) (own_are one) ∙ names_are rest parts;
+    steps = follow rest parts;
   }
 
   ends_first : TellsFront told [] log.ended → EndsFirst jobs log
-  ends_first (rest, parts) = record { rest = rules_in rest ++ cut_names; begun = begun rest parts }
+  ends_first (rest, parts) = record { left = rules_in rest; others = cut_names; begun = begun rest parts }
 
   -- where nothing was stopped none was cut off
   none_cut_names : final.stopped ≡ None → cut_names ≡ []
@@ -232,7 +250,7 @@ module _ (plan : Plan) (files : List (PathNames × Stamp)) (events : List CoreEv
     -- where nothing was stopped
     well : final.stopped ≡ None → ((number : ℕ) → final.bad number ≡ None) → LogEndsWell jobs log
     well going none = record {
-      begun = subst (AreBegun jobs log) (none_cut_names going) (begun [] all_told);
+      begun = subst (AreBegun jobs log []) (none_cut_names going) (begun [] all_told);
       good = subst AreGood (sym is_told) (told_good plan.rules list (none_noted plan events (opening plan files) nothing_claimed knows run none));
     }
 
@@ -332,18 +350,22 @@ module _ (plan : Plan) (files : List (PathNames × Stamp)) (events : List CoreEv
 -- ---- the same of a board
 pub board_logged : {S : Type 0} (board : BoardState S) (plan : Plan) → plan_of board ≡ plan → IsRun (plan_of board) (opening (plan_of board) (finite.entries board.opening.graph.nodes.seen)) board.history →
     (jobs : ℕ) → All (IsBelow jobs) board.history → ((seat : ℕ) → (state board).seats seat ≡ None) → (log : Log) (drained : Drained) (stopped : Option Stop) → Drains (state board) drained → StopsBy plan.rules drained stopped (state board).bad →
-    map Some log.ran ≡ map (name_in plan.rules) (claims board.history) → TellsFor (told_ends plan.rules (ends board.history)) [] log.ended stopped → IsLogged jobs plan.keep_going log stopped
+    map Some log.ran ≡ map (name_in plan.rules) (claims board.history) → log.steps ≡ steps_of board.history → TellsFor (told_ends plan.rules (ends board.history)) [] log.ended stopped → IsLogged jobs plan.keep_going log stopped
 board_logged board plan is run jobs below over log drained stopped drains =
-    subst (λ (p : Plan). StopsBy p.rules drained stopped (state board).bad → map Some log.ran ≡ map (name_in p.rules) (claims board.history) → TellsFor (told_ends p.rules (ends board.history)) [] log.ended stopped →
+    subst (λ (p : Plan). StopsBy p.rules drained stopped (state board).bad → map Some log.ran ≡ map (name_in p.rules) (claims board.history) → log.steps ≡ steps_of board.history → TellsFor (told_ends p.rules (ends board.history)) [] log.ended stopped →
     IsLogged jobs p.keep_going log stopped) is
-    (λ stops named tells. logged (plan_of board) (finite.entries board.opening.graph.nodes.seen) board.history run jobs below over log named (plan_of board).keep_going refl drained stopped drains stops tells)
+    (λ stops named stepped tells. logged (plan_of board) (finite.entries board.opening.graph.nodes.seen) board.history run jobs below over log named stepped (plan_of board).keep_going refl drained stopped drains stops tells)
 
 -- ---- an update whose rules weren't run
 -- none were begun
-pub none_begun_of : (jobs : ℕ) (log : Log) → BeginsNone log → AreBegun jobs log []
+pub none_begun_of : (jobs : ℕ) (log : Log) → BeginsNone log → AreBegun jobs log [] []
 none_begun_of jobs log none = record {
   all = subst (λ (ran : List RuleName). IsPermutation ran (ended_rules log ++ [])) (sym same) (IsPermutation-refl (ended_rules log ++ []));
   alone = λ one. same;
+  steps =
+      subst (λ (steps : List Step). Interleave jobs [] steps log.ran (ended_rules log ++ [])) (sym none.steps)
+      (subst (λ (ran : List RuleName). Interleave jobs [] [] ran (ended_rules log ++ [])) (sym none.ran)
+      (subst (λ (ended : List EndedRule). Interleave jobs [] [] [] (rules_in ended ++ [])) (sym none.ended) tt));
 }
   where
     same : log.ran ≡ ended_rules log ++ []
@@ -358,7 +380,7 @@ none_logged jobs keep_going log none = record {
 
 -- the first of none
 pub none_first : (jobs : ℕ) (log : Log) → BeginsNone log → EndsFirst jobs log
-none_first jobs log none = record { rest = []; begun = none_begun_of jobs log none }
+none_first jobs log none = record { left = []; others = []; begun = none_begun_of jobs log none }
 
 none_cut_short : (jobs : ℕ) → 0 < jobs → (keep_going : Bool) (log : Log) → BeginsNone log → IsCutOff jobs keep_going log
 none_cut_short jobs some keep_going log none = record {

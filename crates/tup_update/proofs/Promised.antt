@@ -27,9 +27,12 @@ use Rattle.tup_promise.specs.Crashes.{SourcesStay}
 use Rattle.tup_promise.specs.Finished.{IsSettled, ExactlyTheFiles}
 use Rattle.tup_promise.specs.Needed.{FlagsWhatWasDue, NamesAllDue, NamesAllThatCan, RunsAll, RunsWhatIsNeeded}
 use Rattle.tup_promise.specs.Prepared.{IsPrepared}
+use Rattle.tup_promise.specs.declared.log.Log.{Log}
 use Rattle.tup_promise.specs.declared.stop.Stop.{Stop}
 use Rattle.tup_promise.specs.declared.stop.Stop.TheVariants as stop
+use Rattle.tup_promise.proofs.BadEnds.{none_bad as no_bad_ends}
 use Rattle.tup_phases.specs.Kept.{BlamesSources}
+use Rattle.tup_phases.specs.Logged.{BeginsNone}
 use Rattle.tup_phases.specs.Prepared.{StopsBefore}
 use Rattle.tup_phases.specs.Room.{FillsStore}
 use Rattle.tup_ends.specs.Room.{LacksRoomToRun}
@@ -74,45 +77,57 @@ runs_without : (next : Next) (keep_going : Bool) (jobs : ℕ) (first : World) (r
 runs_without next true jobs first ran = tt
 runs_without next false jobs first ran = tt
 
-pub unchanged : {S R : Type 0} (site : Site S) (runner : Runner R) (keep_going : Bool) (jobs : ℕ) (graph : Held) (at new : S) (ran : List RuleName) (stopped : Option Stop) → LeavesDue site runner.next graph at
-    → new ≡ at → ran ≡ [] → stopped ≡ Some (stop.Outside failed.Memory) → PromisesOver site runner keep_going jobs graph at new ran stopped
-unchanged {S} site runner keep_going jobs graph at new ran stopped due same none is = λ old tells means was.
-    subst (λ (one : S). Promises site runner keep_going jobs old one ran stopped) (sym same)
-    (subst (λ (names : List RuleName). Promises site runner keep_going jobs old at names stopped) (sym none)
-    (subst (λ (s : Option Stop). Promises site runner keep_going jobs old at [] s) (sym is) (record {
+-- a log that stayed as it was names no rule still
+pub begins_none : (old new : Log) → new ≡ old → BeginsNone old → BeginsNone new
+begins_none old new same none = subst BeginsNone (sym same) none
+
+-- and by such a log it ran no more than was needed
+runs_none : (next : Next) (keep_going : Bool) (jobs : ℕ) (first : World) (log : Log) (stopped : Option Stop) → log.ran ≡ [] → RunsAll next keep_going jobs first [] stopped → RunsWhatIsNeeded next keep_going jobs first log.ran stopped
+runs_none next keep_going jobs first log stopped none all =
+    subst (λ (names : List RuleName). RunsWhatIsNeeded next keep_going jobs first names stopped) (sym none) (none_runs next keep_going jobs first stopped all)
+
+pub unchanged : {S R : Type 0} (site : Site S) (runner : Runner R) (keep_going : Bool) (jobs : ℕ) (graph : Held) (at new : S) (log : Log) (stopped : Option Stop) → LeavesDue site runner.next graph at
+    → new ≡ at → BeginsNone log → stopped ≡ Some (stop.Outside failed.Memory) → PromisesOver site runner keep_going jobs graph at new log stopped
+unchanged {S} site runner keep_going jobs graph at new log stopped due same none is = λ old tells means was.
+    subst (λ (one : S). Promises site runner keep_going jobs old one log stopped) (sym same)
+    (subst (λ (s : Option Stop). Promises site runner keep_going jobs old at log s) (sym is) (record {
       files = tt;
       needed = record {
-        runs = none_runs runner.next keep_going jobs (site.world old) (Some (stop.Outside failed.Memory)) (runs_without runner.next keep_going jobs (site.world old) []);
+        runs = runs_none runner.next keep_going jobs (site.world old) log (Some (stop.Outside failed.Memory)) none.ran (runs_without runner.next keep_going jobs (site.world old) []);
         flagged = due tells (site.world old) (site.moment old) was.prepared;
       };
       crashes = record { later = was.prepared.over.began; kept = was.prepared.over.kept; owned = was.owns };
       states = kept_stated runner.next (site.world old) (site.world at) was.stored;
       blamed = tt;
+      bads = no_bad_ends runner.next (site.world old) log none.ended;
+      first = tt;
       full = tt;
       kept = was.prepared.kept;
       settled = λ none. absurd (none-some (stop.Outside failed.Memory) (sym none));
-    })))
+    }))
 
 -- and so it is where none had to be run
-pub nothing_due : {S R : Type 0} (site : Site S) (runner : Runner R) (keep_going : Bool) (jobs : ℕ) (graph : Held) (at : S) (ran : List RuleName) → LeavesDue site runner.next graph at → ran ≡ [] → ((number : ℕ) → is_flagged graph.nodes number ≡ false)
+pub nothing_due : {S R : Type 0} (site : Site S) (runner : Runner R) (keep_going : Bool) (jobs : ℕ) (graph : Held) (at : S) (log : Log) → LeavesDue site runner.next graph at → BeginsNone log → ((number : ℕ) → is_flagged graph.nodes number ≡ false)
     → ((first : World) (since : ℕ) → IsTrue site.tells → IsPrepared site runner.next first since graph at → ExactlyTheFiles runner.next first (site.world at) None)
-    → ((first : World) (since : ℕ) → IsTrue site.tells → IsPrepared site runner.next first since graph at → IsSettled site at) → PromisesOver site runner keep_going jobs graph at at ran None
-nothing_due site runner keep_going jobs graph at ran due none unflagged files settled = λ old tells means was.
+    → ((first : World) (since : ℕ) → IsTrue site.tells → IsPrepared site runner.next first since graph at → IsSettled site at) → PromisesOver site runner keep_going jobs graph at at log None
+nothing_due site runner keep_going jobs graph at log due none unflagged files settled = λ old tells means was.
     let first = site.world old in
     let since = site.moment old in
-    subst (λ (names : List RuleName). Promises site runner keep_going jobs old at names None) (sym none) (record {
+    record {
       files = files first since tells was.prepared;
       needed = record {
-        runs = none_runs runner.next keep_going jobs first None (none_due site runner.next first since graph at was.prepared unflagged);
+        runs = runs_none runner.next keep_going jobs first log None none.ran (none_due site runner.next first since graph at was.prepared unflagged);
         flagged = due tells first since was.prepared;
       };
       crashes = record { later = was.prepared.over.began; kept = was.prepared.over.kept; owned = was.owns };
       states = kept_stated runner.next first (site.world at) was.stored;
       blamed = tt;
+      bads = no_bad_ends runner.next first log none.ended;
+      first = tt;
       full = tt;
       kept = was.prepared.kept;
-      settled = λ none. settled first since tells was.prepared;
-    })
+      settled = λ _. settled first since tells was.prepared;
+    }
 
 -- its sources are kept
 pub unchanged_sources : {S : Type 0} (site : Site S) (graph : Held) (at new : S) → new ≡ at → KeepsSources site graph at new
@@ -204,7 +219,7 @@ blames_sources next w now ran (stop.Outside failed.Memory) before blames = tt
 -- ---- why the store is said to be full
 module _ {S : Type 0} (site : Site S) (old new : S) (ran : List RuleName) where
   -- once its rules were run
-  pub full_by : (stopped : Option Stop) → (stopped ≡ Some stop.Full → (w : World) × site.left_since new (site.moment old) w × LacksRoomToRun w ran) → HasFullCause site old new ran stopped
+  pub full_by : (stopped : Option Stop) → (stopped ≡ Some stop.Full → (w : World) × site.left_since new (site.moment old) w × LacksRoomToRun (site.world old) w ran) → HasFullCause site old new ran stopped
   full_by None full = tt
   full_by (Some stop.NoStore) full = tt
   full_by (Some (stop.BadStore offset)) full = tt

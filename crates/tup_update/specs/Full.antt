@@ -9,8 +9,8 @@ use Rattle.tup_phases.specs.Room.{LacksRoom}
 use Rattle.tup_ends.specs.Room.{LacksRoomToRun}
 
 -- Where an update of a site that left another is told that the store is full, there is no room in it: before any command is run, in the
--- store as it is left for what was to be committed next; and after that, in a store that a crash since the beginning may leave for what
--- the run of a rule commits whose command was run.
+-- store as it is left for what was to be committed next; and after that, in a store of the present rules that a crash since the beginning
+-- may leave, for what the run of one of them commits whose command was run.
 abbrev pub HasFullCause : {S : Type 0} → Site S → S → S → List RuleName → Option Stop → Type 0
 HasFullCause site old new ran None = ⊤
 HasFullCause site old new ran (Some NoStore) = ⊤
@@ -19,5 +19,5 @@ HasFullCause site old new ran (Some (Sources fault)) = ⊤
 HasFullCause site old new ran (Some (UserFile path written found)) = ⊤
 HasFullCause site old new ran (Some (Bad name verdict)) = ⊤
 HasFullCause site old new ran (Some Run) = ⊤
-HasFullCause site old new ran (Some Full) = ((ran ≡ []) × LacksRoom (site.world new)) ⊎ ((w : World) × site.left_since new (site.moment old) w × LacksRoomToRun w ran)
+HasFullCause site old new ran (Some Full) = ((ran ≡ []) × LacksRoom (site.world new)) ⊎ ((w : World) × site.left_since new (site.moment old) w × LacksRoomToRun (site.world old) w ran)
 HasFullCause site old new ran (Some (Outside failed)) = ⊤

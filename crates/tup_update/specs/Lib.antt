@@ -4,3 +4,5 @@ pub mod Full
 pub mod Promised
 pub mod Because
 pub mod Ended
+pub mod Steps
+pub mod Done

@@ -10,6 +10,7 @@ mod by_rule;
 mod ended;
 mod names;
 mod run;
+mod steps;
 mod update;
 
 pub use update::{Asked, Updated, update_site};

@@ -21,12 +21,15 @@ ghost use Rattle.tup_update.specs.Because.{AreChainsOf, AreSaid, OfEnded, SaysWh
 ghost use Rattle.tup_update.specs.Ended.{TellsFor, ends, numbers, told_ends};
 ghost use Rattle.tup_update.specs.Names.{AreNamesOf, IsReadyFor, name_in, value_at};
 ghost use Rattle.tup_update.specs.Promised.{KeepsSources, PromisesOver};
+ghost use Rattle.tup_update.specs.Done.{OnlyRuns};
 ghost use Rattle.tup_update.specs.Run.{OfBads, StopsBy, StopsRunning};
+ghost use Rattle.tup_update.specs.Steps.{HasRoomFor, steps_of};
 
 use crate::because::chains_of;
 use crate::by_rule::ByRule;
 use crate::ended::stopped_by;
 use crate::names::names_of;
+use crate::steps::Steps;
 use crate::update::{Asked, Updated};
 use std::alloc::{AllocError, Global};
 use std::mem;
@@ -70,9 +73,10 @@ pub(crate) fn run_flagged<W: Threads + Wait + Sync, S: Site + Send, R: Runner + 
     requires none { BeginsNone log }
     ensures crew { length result.crew.items ≡ length crew.items }
     ensures logged { IsLogged (length crew.items) asked.keep_going result.log result.stopped }
+    ensures only_runs { OnlyRuns log result.log }
     ensures stops { IfSome result.stopped StopsRunning }
     ensures promised { PromisesOver S.Site.own R.Runner.own asked.keep_going (length crew.items)
-        graph site result.site result.log.ran result.stopped }
+        graph site result.site result.log result.stopped }
     ensures sources { KeepsSources S.Site.own graph site result.site }
     ensures counted { CrewCountedCause (length crew.items)
         (S.faults site) (S.faults result.site) result.stopped }
@@ -132,9 +136,10 @@ fn run_plan<W: Threads + Wait + Sync, S: Site + Send, R: Runner + Send>(
     requires none { BeginsNone log }
     ensures crew { length result.crew.items ≡ length crew.items }
     ensures logged { IsLogged (length crew.items) plan.now.keep_going result.log result.stopped }
+    ensures only_runs { OnlyRuns log result.log }
     ensures stops { IfSome result.stopped StopsRunning }
     ensures promised { PromisesOver S.Site.own R.Runner.own plan.now.keep_going (length crew.items)
-        graph site result.site result.log.ran result.stopped }
+        graph site result.site result.log result.stopped }
     ensures sources { KeepsSources S.Site.own graph site result.site }
     ensures counted { CrewCountedCause (length crew.items)
         (S.faults site) (S.faults result.site) result.stopped }
@@ -155,10 +160,11 @@ fn run_plan<W: Threads + Wait + Sync, S: Site + Send, R: Runner + Send>(
 }
 
 /// What is known of the rules of a plan before the first is run: their names, and where they are asked for the chains of
-/// their reasons.
+/// their reasons. There is room for their steps.
 #[derive(Drop)]
 struct Known {
     names: ByRule<RuleName>,
+    steps: Steps,
     chains: Option<ByRule<Option<Text>>>,
 }
 
@@ -166,13 +172,19 @@ struct Known {
 fn known_of(alloc: Global, nodes: &Nodes, plan: &Plan, explain: bool) -> Result<Known, AllocError>
     requires { IsInRange plan.now }
     ensures names { IfOk result (λ known. AreNamesOf plan.now known.names) }
+    ensures steps { IfOk result (λ known. HasRoomFor plan.now known.steps) }
     ensures asked { IfOk result (λ known. is_some known.chains ≡ explain) }
     ensures chains { IfOk result
         (λ known. IfSome known.chains (AreChainsOf nodes.now plan.now)) }
 {
     let names = names_of(alloc, plan)?;
+    let steps = Steps::of(alloc, plan)?;
     let chains = chains_of(alloc, nodes, plan, explain)?;
-    Ok(Known { names, chains })
+    Ok(Known {
+        names,
+        steps,
+        chains,
+    })
 }
 
 /// Runs the rules of a board at its opening, and tells the log of them.
@@ -190,14 +202,16 @@ fn run_board<W: Threads + Wait + Sync, S: Site + Send, R: Runner + Send>(
     requires range { IsInRange plan.now }
     requires once { OutputsOnce plan.now.rules }
     requires names { AreNamesOf plan.now known.names }
+    requires steps { HasRoomFor plan.now known.steps }
     requires chains { IfSome known.chains (IsReadyFor plan.now.reach) }
     requires none { log.ended ≡ [] }
     ensures crew { length result.crew.items ≡ length crew.items }
     ensures logged { IsLogged (length crew.items) plan.now.keep_going result.log result.stopped }
+    ensures only_runs { OnlyRuns log result.log }
     ensures stops { IfSome result.stopped StopsRunning }
     ensures promised { let opening = board.opening in
         PromisesOver S.Site.own R.Runner.own plan.now.keep_going (length crew.items)
-        opening.graph opening.site result.site result.log.ran result.stopped }
+        opening.graph opening.site result.site result.log result.stopped }
     ensures sources { let opening = board.opening in
         KeepsSources S.Site.own opening.graph opening.site result.site }
     ensures counted { CrewCountedCause (length crew.items)
@@ -243,6 +257,7 @@ fn told<S: Site, R: Runner>(
     requires run { (files : List (PathNames × StampValue)) × IsRun plan.now (opening plan.now files) parts.history }
     requires range { IsInRange plan.now }
     requires names { AreNamesOf plan.now known.names }
+    requires steps { HasRoomFor plan.now known.steps }
     requires chains { IfSome known.chains (IsReadyFor plan.now.reach) }
     requires none { log.ended ≡ [] }
     ensures stops { OfBads plan.now parts.history
@@ -250,10 +265,12 @@ fn told<S: Site, R: Runner>(
     ensures ran { map command_of result.log.ran ≡ commands plan.now parts.history }
     ensures site { result.site ≡ parts.site }
     ensures crew { result.crew.items ≡ crew.items }
+    ensures only_runs { OnlyRuns log result.log }
     ensures tells { let told = told_ends plan.now.rules (ends parts.history) in
         TellsFor told [] result.log.ended result.stopped }
     ensures named { map Some result.log.ran
         ≡ map (name_in plan.now.rules) (claims parts.history) }
+    ensures steps { result.log.steps ≡ steps_of parts.history }
     ensures unasked { known.chains ≡ None → result.because ≡ [] }
     ensures why { (g : GraphState) → IfSome known.chains (λ chains. AreChainsOf g plan.now chains
         → OfEnded result.log (λ ended. AllZip (SaysWhy g plan.now) ended result.because)) }
@@ -261,6 +278,7 @@ fn told<S: Site, R: Runner>(
     claimed_once();
     let history = parts.history.as_slice();
     log.ran = known.names.claimed(history);
+    log.steps = known.steps.in_history(history);
     let because = ended_chains(alloc, known.chains, history);
     let stopped = stopped_by(alloc, plan, history, drained, &mut log.ended);
     Updated {

@@ -5,8 +5,10 @@ ghost use Rattle.tup_table.specs.Images.{OpenStep};
 ghost use Rattle.tup_law_site.specs.Over.{IsKeptNow};
 ghost use Rattle.tup_law_phases.specs.Language.{tupfiles};
 ghost use Rattle.tup_promise.specs.Cause.{CrewCountedCause, CrewRunCause, IsWithin};
+ghost use Rattle.tup_promise.specs.BadEnds.{BadEnds, BlamesFirst};
 ghost use Rattle.tup_promise.specs.Blamed.{IsToBlame};
 ghost use Rattle.tup_promise.specs.Crashes.{SourcesAndCrashes, SourcesStay};
+ghost use Rattle.tup_promise.specs.Did.{ReadAndRemoved};
 ghost use Rattle.tup_promise.specs.Finished.{IsSettled, ExactlyTheFiles};
 ghost use Rattle.tup_promise.specs.Kept.{IsKeptBySome, KeptHere};
 ghost use Rattle.tup_promise.specs.Needed.{OnlyWhatIsNeeded};
@@ -92,6 +94,11 @@ pub fn update_site<W: Threads + Wait + Sync, S: Site + Send, R: Runner + Send>(
     ensures blamed { KeptHere S.Site.own R.Runner.own site
         → let old = S.world site in let new = S.world result.site in
         IsToBlame R.next old new result.log.ran result.stopped }
+    // So is each bad verdict in the log; and the bad rule that is blamed is the first of them.
+    ensures bads { KeptHere S.Site.own R.Runner.own site
+        → BadEnds R.next (S.world site) result.log }
+    ensures first { KeptHere S.Site.own R.Runner.own site
+        → BlamesFirst (S.world site) result.log result.stopped }
     // And where it is told that the store is full, there is no room in it.
     ensures full { KeptHere S.Site.own R.Runner.own site
         → HasFullCause S.Site.own site result.site result.log.ran result.stopped }
@@ -105,6 +112,9 @@ pub fn update_site<W: Threads + Wait + Sync, S: Site + Send, R: Runner + Send>(
     // Nor is a file of the user's touched at a path that no rule makes: it holds the update up.
     ensures users { IsTrue S.tells → IsKeptBySome S.Site.own site → HasUsersFile (S.world site)
         → IsHeldUp S.Site.own site result.site result.log.ran result.stopped }
+    // Its log has just the folders whose Tupfile had to be read, and the files that had to be removed.
+    ensures did { IsTrue S.tells → IsKeptBySome S.Site.own site
+        → ReadAndRemoved (S.world site) result.log result.stopped }
     // And where it is asked why, each rule that came to a verdict has the chain of a reason that holds.
     ensures why { IsTrue S.tells → IsKeptBySome S.Site.own site → IsTrue asked.explain
         → OfEnded result.log (λ ended. AreExplained S.Site.own site ended result.because) }

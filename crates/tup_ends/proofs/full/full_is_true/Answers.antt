@@ -8,5 +8,5 @@ returns g c = λ board first since ran tells sound prepared same stopped.
     let full = sound.cause Full stopped tells in (
       full.0,
       site_laws.earlier board.site since (g.S.Site.moment board.opening.site) full.0 tells prepared.over.began full.1,
-      lacks_room g.S.Site g.R.Runner board sound tells ran same full.0 full.1 full.2,
+      lacks_room g.S.Site g.R.Runner board sound tells ran same g.R.Runner.next first since prepared full.0 full.1 full.2,
     )

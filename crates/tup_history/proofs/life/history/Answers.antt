@@ -9,16 +9,16 @@ use Rattle.tup_history.proofs.life.history.Goals as goal
 pub returns-then-is_err-clause-lived : goal.returns-then-is_err-clause-lived
 returns-then-is_err-clause-lived g c =
     let full = refused_so c.reserve.result _ (sym c.is_err.ensures.value ∙ c.if-is_err.true) c.reserve.ensures.full in
-    no_room g.R.Runner.tells g.R.Runner.next c.args.turns.items c.from_vec.result (standing g.R.Runner.faults g.K.Sink.faults c.args.site c.args.crew.items c.args.out.now)
+    no_room g.R.Runner.tells g.R.Runner.next c.args.turns.items c.from_vec.result (standing g.R.Runner g.K.Sink c.args.site c.args.crew.items c.args.out.now)
     (c.from_vec.ensures ∙ c.reserve.ensures.items ∙ c.new-ends.ensures.items)
     (omega (arith, full, c.len.ensures, c.args.turns.ok.0))
 
 pub loop-turn-preserved : goal.loop-turn-preserved
 loop-turn-preserved g c =
     let step = Takes g.R.Runner.tells g.R.Runner.next in
-    let from = standing g.R.Runner.faults g.K.Sink.faults c.args.site c.args.crew.items c.args.out.now in
-    let mid = standing g.R.Runner.faults g.K.Sink.faults c.loop-turn.life.site c.loop-turn.life.crew.items c.loop-turn.out in
-    let to = standing g.R.Runner.faults g.K.Sink.faults c.take_turn-next.result.life.site c.take_turn-next.result.life.crew.items c.take_turn-next.new.out in
+    let from = standing g.R.Runner g.K.Sink c.args.site c.args.crew.items c.args.out.now in
+    let mid = standing g.R.Runner g.K.Sink c.loop-turn.life.site c.loop-turn.life.crew.items c.loop-turn.out in
+    let to = standing g.R.Runner g.K.Sink c.take_turn-next.result.life.site c.take_turn-next.result.life.crew.items c.take_turn-next.new.out in
     let takes : step c.in-Some.turn c.in-Ok.end mid to = rw c.in-Ok.is at c.take_turn-next.ensures.takes in
     let more = length_push c.loop-turn.yielded c.in-Some.turn in
     let noted = length_push c.loop-turn.ends.items c.in-Ok.end in
@@ -37,9 +37,9 @@ returns-in-Err-clause-lived g c =
     let left = c.loop-turn.turn-iterator in
     let gives = c.into_iter-turn-iterator.ensures.into_iter_gives in
     let len = gives.1 ∙ c.args.turns.ok.0 in
-    let from = standing g.R.Runner.faults g.K.Sink.faults c.args.site c.args.crew.items c.args.out.now in
-    let mid = standing g.R.Runner.faults g.K.Sink.faults c.loop-turn.life.site c.loop-turn.life.crew.items c.loop-turn.out in
-    let to = standing g.R.Runner.faults g.K.Sink.faults c.take_turn-next.result.life.site c.take_turn-next.result.life.crew.items c.take_turn-next.new.out in
+    let from = standing g.R.Runner g.K.Sink c.args.site c.args.crew.items c.args.out.now in
+    let mid = standing g.R.Runner g.K.Sink c.loop-turn.life.site c.loop-turn.life.crew.items c.loop-turn.out in
+    let to = standing g.R.Runner g.K.Sink c.take_turn-next.result.life.site c.take_turn-next.result.life.crew.items c.take_turn-next.new.out in
     lived_so_far g.R.Runner.tells g.R.Runner.next turns c.loop-turn.yielded c.in-Some.turn c.loop-turn.ends.items c.from_vec-in-Err.result c.len-in-Err.result c.in-Err.why from mid to
     c.from_vec-in-Err.ensures (c.len-in-Err.ensures ∙ c.loop-turn.ends.ok.0)
     (taken turns it gives.0 len c.loop-turn.yielded left c.loop-turn.yielded_by)
@@ -56,8 +56,8 @@ returns-clause-lived g c =
     let left = c.loop-turn.turn-iterator in
     let gives = c.into_iter-turn-iterator.ensures.into_iter_gives in
     let len = gives.1 ∙ c.args.turns.ok.0 in
-    let from = standing g.R.Runner.faults g.K.Sink.faults c.args.site c.args.crew.items c.args.out.now in
-    let to = standing g.R.Runner.faults g.K.Sink.faults c.loop-turn.life.site c.loop-turn.life.crew.items c.loop-turn.out in
+    let from = standing g.R.Runner g.K.Sink c.args.site c.args.crew.items c.args.out.now in
+    let to = standing g.R.Runner g.K.Sink c.loop-turn.life.site c.loop-turn.life.crew.items c.loop-turn.out in
     all_lived g.R.Runner.tells g.R.Runner.next turns c.loop-turn.yielded c.loop-turn.ends.items c.from_vec-2.result from to
     c.from_vec-2.ensures
     (taken turns it gives.0 len c.loop-turn.yielded left c.loop-turn.yielded_by)

@@ -1,5 +1,7 @@
 use Rattle.tup_phases.proofs.Owning.{read_owns}
-use Rattle.std.proofs.Common.{Err, sym, subst, Ok, ap, ◌∙◌}
+use Rattle.std.proofs.Common.{Err, sym, subst, Ok, ap, map, ◌∙◌}
+use Rattle.std.specs.FinMap as finite
+use Rattle.tup_graph.specs.Answers.{tup_config}
 use Rattle.tup_site.specs.Cause.{IsTooLarge}
 use Rattle.tup_refresh.specs.Cause.{IsRefreshOf}
 use Rattle.tup_phases.specs.Kept.{BlamesSources, BringsNothing, IsNoted}
@@ -25,6 +27,8 @@ use Rattle.tup_phases.proofs.Seeing.{seen_again}
 use Rattle.tup_phases.proofs.Stopping.{counted_before, refresh_counted, refresh_opened}
 use Rattle.tup_phases.specs.Room.{FillsStore}
 use Rattle.tup_phases.proofs.Filling.{refresh_fills}
+use Rattle.tup_rule_diff.specs.Edits.{dir_of}
+use Rattle.tup_phases.proofs.Reading.{reads_these}
 use Rattle.tup_phases.proofs.bringing.brought.Goals as goal
 
 -- ---- they couldn't be read
@@ -106,6 +110,37 @@ returns-then-brings_nothing-clause-brought g c = λ tells next first since noted
     (subst (λ (nodes : GraphState). BringsNothing nodes found) c.nodes-2.ensures.value (c.brings_nothing.ensures c.if-brings_nothing.true))
     (subst (λ (sources : Tree). IsRefresh graph.nodes sources (Ok found)) (same_sources g.S.Site tells site_laws.earlier site_laws.present next first since graph at stands is kept noted.was noted.stored) refreshed)
 
+pub returns-then-brings_nothing-clause-reads : goal.returns-then-brings_nothing-clause-reads
+returns-then-brings_nothing-clause-reads g c = λ tells next first since noted kept none.
+    let site_laws = g.met.S.Site in
+    let at = c.args.site.now in
+    let graph = c.args.graph.now in
+    let tree = (g.S.Site.world at).tree in
+    let known = g.S.Site.known at in
+    let found = c.in_ok-found.found in
+    let is = subst (IsGraphOf (entries_in graph.table)) c.nodes.ensures.value (c.nodes.ensures.graph c.requires.fresh) in
+    let seen = c.requires.seen tells in
+    let kept_now = graph_kept g.S.Site tells site_laws.earlier site_laws.present next first since graph at (c.requires.stands tells) is kept in
+    let refreshed = refreshed_of next known graph.nodes c.nodes.result.now tree c.args.config.now (Ok found) c.nodes.ensures.value (site_laws.is_known at tells) (site_laws.knows_tree at tells) kept_now seen (c.requires.config tells) (c.in_ok-found.ensures.refreshed tells) in
+    let nothing = subst (λ (nodes : GraphState). BringsNothing nodes found) c.nodes-2.ensures.value (c.brings_nothing.ensures c.if-brings_nothing.true) in
+    reads_these first (g.S.Site.world at) graph.nodes noted seen found c.args.log.now.read refreshed (none ∙ sym (ap (map dir_of) nothing.fresh))
+
+pub returns-clause-reads : goal.returns-clause-reads
+returns-clause-reads g c = λ tells next first since noted kept none.
+    let site_laws = g.met.S.Site in
+    let at = c.args.site.now in
+    let graph = c.args.graph.now in
+    let tree = (g.S.Site.world at).tree in
+    let known = g.S.Site.known at in
+    let found = c.in_ok-found.found in
+    let same = c.refresh.ensures.same tells in
+    let is = subst (IsGraphOf (entries_in graph.table)) c.nodes.ensures.value (c.nodes.ensures.graph c.requires.fresh) in
+    let kept_now = graph_kept g.S.Site tells site_laws.earlier site_laws.present next first since graph at (c.requires.stands tells) is kept in
+    let refreshed = refreshed_of next known graph.nodes c.nodes.result.now tree c.args.config.now (Ok found) c.nodes.ensures.value (site_laws.is_known at tells) (site_laws.knows_tree at tells) kept_now (c.requires.seen tells) (c.requires.config tells) (c.in_ok-found.ensures.refreshed tells) in
+    c.swapped.ensures.reads tells first
+    (subst (λ (w : World). IsRefresh graph.nodes (sources_of graph.nodes w.tree) (Ok found)) (sym same) refreshed)
+    (subst (λ (w : World). IsNoted first w graph.nodes) (sym same) noted)
+
 pub returns-clause-files : goal.returns-clause-files
 returns-clause-files g c = λ tells.
     files_both g.S.Site c.args.site.now c.refresh.new.site c.swapped.new.site
@@ -165,7 +200,7 @@ returns-in_err-found-clause-within g c = λ tells next first since noted kept.
     let flags = c.flags_are_of_rules.ensures (entries_of noted.stored.commits) noted.was noted.stored.graph in
     over_within g.S.Site tells site_laws.earlier site_laws.present first next first since graph mid (c.reads_keep_graphs.ensures graph mid tells same crash stands) is
     (since_read g.S.Site next first since at mid (files_read g.S.Site at mid same crash (c.refresh.ensures.known tells)) crash kept)
-    (scan_within next (g.S.Site.known at) first noted.was graph.nodes (g.S.Site.world at).tree noted.stored noted.tree was_kept flags noted.scanned (c.requires.seen tells))
+    (scan_within next (g.S.Site.known at) first noted.was graph.nodes (g.S.Site.world at).tree noted.stored noted.tree was_kept flags (finite.get first.tree tup_config) noted.scanned (c.requires.seen tells))
 
 pub returns-then-brings_nothing-clause-within : goal.returns-then-brings_nothing-clause-within
 returns-then-brings_nothing-clause-within g c = λ tells next first since noted kept.
@@ -181,7 +216,7 @@ returns-then-brings_nothing-clause-within g c = λ tells next first since noted 
     let flags = c.flags_are_of_rules.ensures (entries_of noted.stored.commits) noted.was noted.stored.graph in
     over_within g.S.Site tells site_laws.earlier site_laws.present first next first since graph mid (c.reads_keep_graphs.ensures graph mid tells same crash stands) is
     (since_read g.S.Site next first since at mid (files_read g.S.Site at mid same crash (c.refresh.ensures.known tells)) crash kept)
-    (scan_within next (g.S.Site.known at) first noted.was graph.nodes (g.S.Site.world at).tree noted.stored noted.tree was_kept flags noted.scanned (c.requires.seen tells))
+    (scan_within next (g.S.Site.known at) first noted.was graph.nodes (g.S.Site.world at).tree noted.stored noted.tree was_kept flags (finite.get first.tree tup_config) noted.scanned (c.requires.seen tells))
 
 pub returns-clause-within : goal.returns-clause-within
 returns-clause-within g c = λ tells next first since noted kept.

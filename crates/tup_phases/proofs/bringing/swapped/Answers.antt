@@ -1,4 +1,6 @@
-use Rattle.std.proofs.Common.{inl, inr, ⊎_elim, Err, sym, subst, List, Ok, arith, refl}
+use Rattle.std.proofs.Common.{inl, inr, ⊎_elim, Err, sym, subst, List, Ok, ap, map, arith, refl, ◌∙◌}
+use Rattle.std.specs.FinMap as finite
+use Rattle.tup_graph.specs.Answers.{tup_config}
 use Rattle.tup_phases.proofs.Owning.{noted_owns, own_here, stored_over, swap_owned}
 use Rattle.tup_project.specs.Project.{ComeTo, AreLinked}
 use Rattle.tup_refresh.proofs.Ending.{refreshed_read}
@@ -33,6 +35,8 @@ use Rattle.tup_phases.proofs.Seeing.{seen_again, seen_alike}
 use Rattle.tup_phases.proofs.Stopping.{graph_counted, link_counted, link_opened, note_opened}
 use Rattle.tup_phases.specs.Room.{FillsStore}
 use Rattle.tup_phases.proofs.Filling.{link_fills, note_fills}
+use Rattle.tup_rule_diff.specs.Edits.{dir_of}
+use Rattle.tup_phases.proofs.Reading.{reads_these}
 use Rattle.tup_phases.proofs.bringing.swapped.Goals as goal
 
 -- ---- the readings come to no rules
@@ -85,6 +89,10 @@ returns-clause-seen g c = λ tells.
 
 pub returns-clause-counted : goal.returns-clause-counted
 returns-clause-counted g c = c.swap_rules.ensures.cause.steady (λ e. cc (c.in_ok-swap_rules.was, e))
+
+pub returns-clause-reads : goal.returns-clause-reads
+returns-clause-reads g c = λ tells first refreshed noted.
+    reads_these first (g.S.Site.world c.args.site.now) c.args.graph.now.nodes noted (c.requires.seen tells) c.args.found c.in_ok-read.read refreshed (c.in_ok-read.ensures ∙ ap (map dir_of) c.as_slice-2.ensures)
 
 -- ---- what it leaves of a site and keeps of it
 
@@ -177,7 +185,7 @@ returns-in_err-rules-clause-within g c = λ tells next first since refreshed not
     let is = subst (IsGraphOf (entries_in graph.table)) c.nodes.ensures.value (c.nodes.ensures.graph c.requires.fresh) in
     let was_kept = first_kept g.S.Site tells site_laws.earlier site_laws.present next first since graph at stands is kept noted.was noted.stored in
     let flags = c.flags_are_of_rules.ensures (entries_of noted.stored.commits) noted.was noted.stored.graph in
-    let here = scan_within next (g.S.Site.known at) first noted.was graph.nodes (g.S.Site.world at).tree noted.stored noted.tree was_kept flags noted.scanned (c.requires.seen tells) in
+    let here = scan_within next (g.S.Site.known at) first noted.was graph.nodes (g.S.Site.world at).tree noted.stored noted.tree was_kept flags (finite.get first.tree tup_config) noted.scanned (c.requires.seen tells) in
     over_within g.S.Site tells site_laws.earlier site_laws.present first next first since graph at stands is kept here
 
 pub returns-in_err-read-clause-within : goal.returns-in_err-read-clause-within
@@ -189,7 +197,7 @@ returns-in_err-read-clause-within g c = λ tells next first since refreshed note
     let is = subst (IsGraphOf (entries_in graph.table)) c.nodes.ensures.value (c.nodes.ensures.graph c.requires.fresh) in
     let was_kept = first_kept g.S.Site tells site_laws.earlier site_laws.present next first since graph at stands is kept noted.was noted.stored in
     let flags = c.flags_are_of_rules.ensures (entries_of noted.stored.commits) noted.was noted.stored.graph in
-    let here = scan_within next (g.S.Site.known at) first noted.was graph.nodes (g.S.Site.world at).tree noted.stored noted.tree was_kept flags noted.scanned (c.requires.seen tells) in
+    let here = scan_within next (g.S.Site.known at) first noted.was graph.nodes (g.S.Site.world at).tree noted.stored noted.tree was_kept flags (finite.get first.tree tup_config) noted.scanned (c.requires.seen tells) in
     over_within g.S.Site tells site_laws.earlier site_laws.present first next first since graph at stands is kept here
 
 pub returns-in_err-swap_rules-clause-within : goal.returns-in_err-swap_rules-clause-within
@@ -201,7 +209,7 @@ returns-in_err-swap_rules-clause-within g c = λ tells next first since refreshe
     let is = subst (IsGraphOf (entries_in graph.table)) c.nodes.ensures.value (c.nodes.ensures.graph c.requires.fresh) in
     let was_kept = first_kept g.S.Site tells site_laws.earlier site_laws.present next first since graph at stands is kept noted.was noted.stored in
     let flags = c.flags_are_of_rules.ensures (entries_of noted.stored.commits) noted.was noted.stored.graph in
-    let here = scan_within next (g.S.Site.known at) first noted.was graph.nodes (g.S.Site.world at).tree noted.stored noted.tree was_kept flags noted.scanned (c.requires.seen tells) in
+    let here = scan_within next (g.S.Site.known at) first noted.was graph.nodes (g.S.Site.world at).tree noted.stored noted.tree was_kept flags (finite.get first.tree tup_config) noted.scanned (c.requires.seen tells) in
     let tree = (g.S.Site.world at).tree in
     let known = g.S.Site.known at in
     let found = c.args.found in
@@ -212,7 +220,7 @@ returns-in_err-swap_rules-clause-within g c = λ tells next first since refreshe
     let fits = fits_so known graph.nodes tree found rules (site_laws.knows_tree at tells) (site_laws.is_tree at tells) (c.requires.seen tells) refreshed linked can in
     let same = same_sources g.S.Site tells site_laws.earlier site_laws.present next first since graph at stands is kept noted.was noted.stored in
     noted_within g.S.Site tells site_laws.earlier site_laws.present first graph.nodes (IsSwapped graph.nodes found.fresh found.gone rules) at c.swap_rules.new.site (c.swap_rules.ensures.crash tells) here
-    (λ new swapped. swap_within known first noted.was graph.nodes new noted.stored noted.scanned.2.owned found.fresh found.gone rules fits swapped
+    (λ new swapped. swap_within known first noted.was graph.nodes new noted.stored noted.scanned.1.owned found.fresh found.gone rules fits swapped
     (swap_brought first (g.S.Site.world at) graph.nodes noted next known was_kept (c.requires.seen tells) found rules new
     (subst (λ (sources : Tree). SeesSources sources graph.nodes) same (sees graph.nodes tree (c.requires.seen tells)))
     (subst (λ (sources : Tree). IsRefresh graph.nodes sources (Ok found)) same refreshed) linked swapped fits))
@@ -226,7 +234,7 @@ returns-clause-within g c = λ tells next first since refreshed noted kept.
     let is = subst (IsGraphOf (entries_in graph.table)) c.nodes.ensures.value (c.nodes.ensures.graph c.requires.fresh) in
     let was_kept = first_kept g.S.Site tells site_laws.earlier site_laws.present next first since graph at stands is kept noted.was noted.stored in
     let flags = c.flags_are_of_rules.ensures (entries_of noted.stored.commits) noted.was noted.stored.graph in
-    let here = scan_within next (g.S.Site.known at) first noted.was graph.nodes (g.S.Site.world at).tree noted.stored noted.tree was_kept flags noted.scanned (c.requires.seen tells) in
+    let here = scan_within next (g.S.Site.known at) first noted.was graph.nodes (g.S.Site.world at).tree noted.stored noted.tree was_kept flags (finite.get first.tree tup_config) noted.scanned (c.requires.seen tells) in
     let tree = (g.S.Site.world at).tree in
     let known = g.S.Site.known at in
     let found = c.args.found in
@@ -237,7 +245,7 @@ returns-clause-within g c = λ tells next first since refreshed noted kept.
     let fits = fits_so known graph.nodes tree found rules (site_laws.knows_tree at tells) (site_laws.is_tree at tells) (c.requires.seen tells) refreshed linked can in
     let same = same_sources g.S.Site tells site_laws.earlier site_laws.present next first since graph at stands is kept noted.was noted.stored in
     noted_within g.S.Site tells site_laws.earlier site_laws.present first graph.nodes (IsSwapped graph.nodes found.fresh found.gone rules) at c.swap_rules.new.site (c.swap_rules.ensures.crash tells) here
-    (λ new swapped. swap_within known first noted.was graph.nodes new noted.stored noted.scanned.2.owned found.fresh found.gone rules fits swapped
+    (λ new swapped. swap_within known first noted.was graph.nodes new noted.stored noted.scanned.1.owned found.fresh found.gone rules fits swapped
     (swap_brought first (g.S.Site.world at) graph.nodes noted next known was_kept (c.requires.seen tells) found rules new
     (subst (λ (sources : Tree). SeesSources sources graph.nodes) same (sees graph.nodes tree (c.requires.seen tells)))
     (subst (λ (sources : Tree). IsRefresh graph.nodes sources (Ok found)) same refreshed) linked swapped fits))

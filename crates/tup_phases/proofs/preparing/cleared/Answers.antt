@@ -6,6 +6,7 @@ use Rattle.tup_phases.proofs.Within.{cleared_within, within_over}
 use Rattle.std.proofs.Common.{ap, subst, ⊎_elim, ◌∙◌}
 use Rattle.tup_site.specs.World.{World}
 use Rattle.tup_phases.proofs.Users.{none_met}
+use Rattle.tup_phases.proofs.Removing.{removes_these}
 use Rattle.tup_table.specs.Table.{entries_in}
 use Rattle.tup_graph.specs.Opening.{IsGraphOf}
 use Rattle.tup_stored_graph.specs.Held.{Held}
@@ -144,6 +145,11 @@ returns-clause-owns g c = λ tells begun since within owns.
     let is = subst (IsGraphOf (entries_in graph.table)) c.nodes.ensures.value (c.nodes.ensures.graph c.requires.fresh) in
     let stored = stored_over g.S.Site tells site_laws.earlier site_laws.present graph at (c.requires.stands tells) is in
     cleared_owns g.S.Site tells site_laws.earlier site_laws.present begun since at c.clear.new.site within owns graph.nodes stored (standing tree (unmade graph.nodes)) tree (c.clear.ensures.crash tells)
+
+-- ---- which files it removed
+
+pub returns-clause-removes : goal.returns-clause-removes
+returns-clause-removes g c = λ tells first brought same. removes_these first c.args.graph.now.nodes (g.S.Site.world c.args.site.now).tree brought same _ (c.in_ok-log.ensures.sees tells).0
 
 -- ---- where a file of the user's stands at such a path
 

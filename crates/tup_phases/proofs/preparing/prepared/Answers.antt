@@ -1,5 +1,6 @@
-use Rattle.std.proofs.Common.{ap, ◌∙◌, Some}
+use Rattle.std.proofs.Common.{ap, sym, subst, ◌∙◌, Some}
 use Rattle.tup_promise.specs.Cause.{HasCountedCause}
+use Rattle.tup_promise.specs.Did.{ReadAndRemoved, ReadsWhatIsDue}
 use Rattle.tup_promise.specs.Unopened.{Unopened}
 use Rattle.tup_promise.specs.declared.log.Log.{Log}
 use Rattle.tup_promise.proofs.Handed.{err_if, err_so}
@@ -10,7 +11,7 @@ use Rattle.tup_phases.proofs.Brought.{brought_on, records_on}
 use Rattle.tup_phases.proofs.Keeping.{keeps_same, now_kept, over, trees_both}
 use Rattle.tup_phases.proofs.Opening.{stopped_later}
 use Rattle.tup_phases.proofs.Stopping.{counted_before, none_both, opened_before, survey_before}
-use Rattle.tup_phases.proofs.Telling.{cleared_logs, empty_logs, same_tree, tree_on}
+use Rattle.tup_phases.proofs.Telling.{cleared_logs, clearing_did, empty_logs, same_tree, survey_did, tree_on}
 use Rattle.tup_phases.proofs.Within.{within_over}
 use Rattle.tup_phases.specs.Room.{FillsStore}
 use Rattle.tup_phases.proofs.preparing.prepared.Goals as goal
@@ -298,6 +299,29 @@ returns-clause-trees g c = λ tells next kept has.
 
 pub returns-clause-limits : goal.returns-clause-limits
 returns-clause-limits g c = λ tells. c.in_ok-graph.ensures.limits tells
+
+-- ---- which Tupfiles it read, and which files it removed
+
+pub returns-in_err-graph-clause-did : goal.returns-in_err-graph-clause-did
+returns-in_err-graph-clause-did g c = λ tells next kept.
+    let first = g.S.Site.world c.args.site.now in
+    let log = c.surveyed.new.log in
+    err_so c.from_residual.result c.in_err-graph.field-0.0 (ReadAndRemoved first log) c.from_residual.ensures.1 (survey_did first log c.in_err-graph.field-0.0 c.in_err-graph.ensures.logged c.in_err-graph.ensures.stops)
+
+pub returns-in_err-cleared-clause-did : goal.returns-in_err-cleared-clause-did
+returns-in_err-cleared-clause-did g c = λ tells next kept.
+    let first = g.S.Site.world c.args.site.now in
+    let log = c.cleared.new.log in
+    let read = subst (ReadsWhatIsDue first) (sym c.cleared.ensures.read) (c.in_ok-graph.ensures.reads tells next kept) in
+    let none = ap (λ (l : Log). l.removed) c.in_err-cleared.ensures.told ∙ c.surveyed.ensures.removed ∙ c.requires.removed in
+    err_so c.from_residual-in_err-cleared.result c.in_err-cleared.field-0.0 (ReadAndRemoved first log) c.from_residual-in_err-cleared.ensures.1 (clearing_did first log c.in_err-cleared.field-0.0 (read, none) c.in_err-cleared.ensures.clears)
+
+pub returns-clause-did : goal.returns-clause-did
+returns-clause-did g c = λ tells next kept.
+    let first = g.S.Site.world c.args.site.now in (
+      subst (ReadsWhatIsDue first) (sym c.cleared.ensures.read) (c.in_ok-graph.ensures.reads tells next kept),
+      c.in_ok-cleared.ensures.removes tells first (c.in_ok-graph.ensures.brought tells next kept) (c.surveyed.ensures.files tells).tree,
+    )
 
 -- ---- what a store lacks room for that is said to be full
 

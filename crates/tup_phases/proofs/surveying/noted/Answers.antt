@@ -1,5 +1,5 @@
 use Rattle.std.proofs.Common.{◌≡◌, ◌≤◌, arith, sym, subst, ◌∙◌, IfOk}
-use Rattle.std.specs.Result.{OnOk, result_err}
+use Rattle.std.specs.Result.{result_err}
 use Rattle.std.specs.FinMap as finite
 use Rattle.tup_path.specs.Tree.{Tree}
 use Rattle.tup_scan.specs.Cause.{IsWithinLimits}
@@ -37,7 +37,7 @@ returns-in_err-tidied-clause-counted g c =
 
 pub returns-clause-scanned : goal.returns-clause-scanned
 returns-clause-scanned g c =
-    subst (λ (was : GraphState). OnOk c.scanned.result (IsScannedFrom was c.scanned.new.graph.nodes)) c.tidied.ensures.nodes c.scanned.ensures.scanned
+    subst (λ (was : GraphState). IfOk c.scanned.result (λ config. IsScannedFrom was config c.scanned.new.graph.nodes)) c.tidied.ensures.nodes c.scanned.ensures.scanned
 
 pub returns-clause-config : goal.returns-clause-config
 returns-clause-config g c = λ tells.

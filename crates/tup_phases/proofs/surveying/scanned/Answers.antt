@@ -137,7 +137,7 @@ pub returns-clause-config : goal.returns-clause-config
 returns-clause-config g c = λ tells. (c.in_ok-seen.ensures.seen tells).config
 
 pub returns-clause-scanned : goal.returns-clause-scanned
-returns-clause-scanned g c = (c.in_ok-seen.seen.files, c.in_ok-seen.seen.config, c.in_ok-note_scan.ensures.scanned)
+returns-clause-scanned g c = (c.in_ok-seen.seen.files, c.in_ok-note_scan.ensures.scanned)
 
 -- ---- what stands in the store then stays within what a world had
 
@@ -168,7 +168,7 @@ returns-in_err-note_scan-clause-within g c = λ tells next first since stored tr
     let tree = (g.S.Site.world old).tree in
     let was_kept = first_kept g.S.Site tells site_laws.earlier site_laws.present next first since graph old (c.requires.stands tells) is kept graph.nodes stored in
     noted_within g.S.Site tells site_laws.earlier site_laws.present first graph.nodes (IsScanned graph.nodes seen.files seen.config) mid c.note_scan.new.site (c.note_scan.ensures.crash tells) (own_within first graph.nodes stored flags)
-    (λ new scanned. scan_within next (g.S.Site.known old) first graph.nodes new tree stored tree_is was_kept flags (seen.files, seen.config, scanned) (λ path. c.scans_see.ensures graph.nodes new tree seen path (c.in_ok-seen.ensures.seen tells) scanned))
+    (λ new scanned. scan_within next (g.S.Site.known old) first graph.nodes new tree stored tree_is was_kept flags seen.config (seen.files, scanned) (λ path. c.scans_see.ensures graph.nodes new tree seen path (c.in_ok-seen.ensures.seen tells) scanned))
 
 pub returns-clause-within : goal.returns-clause-within
 returns-clause-within g c = λ tells next first since stored tree_is kept.
@@ -184,7 +184,7 @@ returns-clause-within g c = λ tells next first since stored tree_is kept.
     let tree = (g.S.Site.world old).tree in
     let was_kept = first_kept g.S.Site tells site_laws.earlier site_laws.present next first since graph old (c.requires.stands tells) is kept graph.nodes stored in
     noted_within g.S.Site tells site_laws.earlier site_laws.present first graph.nodes (IsScanned graph.nodes seen.files seen.config) mid c.note_scan.new.site (c.note_scan.ensures.crash tells) (own_within first graph.nodes stored flags)
-    (λ new scanned. scan_within next (g.S.Site.known old) first graph.nodes new tree stored tree_is was_kept flags (seen.files, seen.config, scanned) (λ path. c.scans_see.ensures graph.nodes new tree seen path (c.in_ok-seen.ensures.seen tells) scanned))
+    (λ new scanned. scan_within next (g.S.Site.known old) first graph.nodes new tree stored tree_is was_kept flags seen.config (seen.files, scanned) (λ path. c.scans_see.ensures graph.nodes new tree seen path (c.in_ok-seen.ensures.seen tells) scanned))
 
 -- ---- what the sources are blamed for
 

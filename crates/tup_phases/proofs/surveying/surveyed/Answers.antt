@@ -8,10 +8,11 @@ use Rattle.tup_promise.specs.Cause.{HasCountedCause}
 use Rattle.tup_promise.specs.Crashes.{OwnsNoMore}
 use Rattle.tup_promise.specs.Unopened.{IsEmptyLog, Unopened}
 use Rattle.tup_promise.proofs.Handed.{err_if, err_so}
-use Rattle.tup_phases.specs.Kept.{BlamesSources, IsNoted}
+use Rattle.tup_phases.specs.Kept.{BlamesSources}
 use Rattle.tup_phases.specs.Prepared.{StopsSurvey}
 use Rattle.tup_phases.proofs.Keeping.{files_both, since_now, trees_both, trees_by}
 use Rattle.tup_phases.proofs.Opening.{stopped_later}
+use Rattle.tup_phases.proofs.Reading.{noted_since}
 use Rattle.tup_phases.proofs.Stopping.{counted_before, reading_opened, reading_surveys}
 use Rattle.tup_phases.specs.Room.{FillsStore}
 use Rattle.tup_phases.proofs.surveying.surveyed.Goals as goal
@@ -154,7 +155,9 @@ returns-in_err-brought-clause-kept g c = λ tells next kept.
     let opened = c.opened.ensures.kept tells next first since (since_now g.S.Site next old kept) in
     let scanned = c.noted.ensures.kept tells next first since opened in
     let files = files_both g.S.Site old c.opened.new.site c.noted.new.site (c.opened.ensures.files tells) (c.noted.ensures.files tells) in
-    let noted : IsNoted first (g.S.Site.world c.noted.new.site) c.noted.new.graph.nodes = record { was = c.in_ok-graph.graph.nodes; stored = c.in_ok-graph.ensures.stored tells; scanned = c.in_ok-config.ensures.scanned; tree = files.tree } in
+    let noted =
+    noted_since first (g.S.Site.world c.opened.new.site) (g.S.Site.world c.noted.new.site) c.in_ok-graph.graph.nodes c.noted.new.graph.nodes c.in_ok-config.config (c.in_ok-graph.ensures.stored tells) c.in_ok-config.ensures.scanned
+    (c.in_ok-config.ensures.config tells) (c.opened.ensures.files tells).tree files.tree in
     c.brought.ensures.kept tells next first since noted scanned
 
 pub returns-in_err-brought-clause-within : goal.returns-in_err-brought-clause-within
@@ -165,7 +168,9 @@ returns-in_err-brought-clause-within g c = λ tells next kept.
     let opened = c.opened.ensures.kept tells next first since (since_now g.S.Site next old kept) in
     let scanned = c.noted.ensures.kept tells next first since opened in
     let files = files_both g.S.Site old c.opened.new.site c.noted.new.site (c.opened.ensures.files tells) (c.noted.ensures.files tells) in
-    let noted : IsNoted first (g.S.Site.world c.noted.new.site) c.noted.new.graph.nodes = record { was = c.in_ok-graph.graph.nodes; stored = c.in_ok-graph.ensures.stored tells; scanned = c.in_ok-config.ensures.scanned; tree = files.tree } in
+    let noted =
+    noted_since first (g.S.Site.world c.opened.new.site) (g.S.Site.world c.noted.new.site) c.in_ok-graph.graph.nodes c.noted.new.graph.nodes c.in_ok-config.config (c.in_ok-graph.ensures.stored tells) c.in_ok-config.ensures.scanned
+    (c.in_ok-config.ensures.config tells) (c.opened.ensures.files tells).tree files.tree in
     c.brought.ensures.within tells next first since noted scanned
 
 pub returns-in_err-brought-clause-blame : goal.returns-in_err-brought-clause-blame
@@ -176,7 +181,9 @@ returns-in_err-brought-clause-blame g c = λ tells next kept.
     let opened = c.opened.ensures.kept tells next first since (since_now g.S.Site next old kept) in
     let scanned = c.noted.ensures.kept tells next first since opened in
     let files = files_both g.S.Site old c.opened.new.site c.noted.new.site (c.opened.ensures.files tells) (c.noted.ensures.files tells) in
-    let noted : IsNoted first (g.S.Site.world c.noted.new.site) c.noted.new.graph.nodes = record { was = c.in_ok-graph.graph.nodes; stored = c.in_ok-graph.ensures.stored tells; scanned = c.in_ok-config.ensures.scanned; tree = files.tree } in
+    let noted =
+    noted_since first (g.S.Site.world c.opened.new.site) (g.S.Site.world c.noted.new.site) c.in_ok-graph.graph.nodes c.noted.new.graph.nodes c.in_ok-config.config (c.in_ok-graph.ensures.stored tells) c.in_ok-config.ensures.scanned
+    (c.in_ok-config.ensures.config tells) (c.opened.ensures.files tells).tree files.tree in
     err_if c.from_residual-in_err-brought.result c.in_err-brought.field-0.0 (BlamesSources first) c.from_residual-in_err-brought.ensures.1 (c.in_err-brought.ensures.blame tells next first since noted scanned)
 
 pub returns-in_err-brought-clause-owns : goal.returns-in_err-brought-clause-owns
@@ -190,7 +197,9 @@ returns-in_err-brought-clause-owns g c = λ tells next kept.
     let at_noted = c.noted.ensures.owns tells old since opened.began at_opened in
     let scanned = c.noted.ensures.kept tells next first since opened in
     let files = files_both g.S.Site old c.opened.new.site c.noted.new.site (c.opened.ensures.files tells) (c.noted.ensures.files tells) in
-    let noted : IsNoted first (g.S.Site.world c.noted.new.site) c.noted.new.graph.nodes = record { was = c.in_ok-graph.graph.nodes; stored = c.in_ok-graph.ensures.stored tells; scanned = c.in_ok-config.ensures.scanned; tree = files.tree } in
+    let noted =
+    noted_since first (g.S.Site.world c.opened.new.site) (g.S.Site.world c.noted.new.site) c.in_ok-graph.graph.nodes c.noted.new.graph.nodes c.in_ok-config.config (c.in_ok-graph.ensures.stored tells) c.in_ok-config.ensures.scanned
+    (c.in_ok-config.ensures.config tells) (c.opened.ensures.files tells).tree files.tree in
     c.brought.ensures.owns tells next since old noted scanned at_noted
 
 -- ---- it is known what is to be done
@@ -217,7 +226,9 @@ returns-clause-kept g c = λ tells next kept.
     let opened = c.opened.ensures.kept tells next first since (since_now g.S.Site next old kept) in
     let scanned = c.noted.ensures.kept tells next first since opened in
     let files = files_both g.S.Site old c.opened.new.site c.noted.new.site (c.opened.ensures.files tells) (c.noted.ensures.files tells) in
-    let noted : IsNoted first (g.S.Site.world c.noted.new.site) c.noted.new.graph.nodes = record { was = c.in_ok-graph.graph.nodes; stored = c.in_ok-graph.ensures.stored tells; scanned = c.in_ok-config.ensures.scanned; tree = files.tree } in
+    let noted =
+    noted_since first (g.S.Site.world c.opened.new.site) (g.S.Site.world c.noted.new.site) c.in_ok-graph.graph.nodes c.noted.new.graph.nodes c.in_ok-config.config (c.in_ok-graph.ensures.stored tells) c.in_ok-config.ensures.scanned
+    (c.in_ok-config.ensures.config tells) (c.opened.ensures.files tells).tree files.tree in
     c.brought.ensures.kept tells next first since noted scanned
 
 pub returns-clause-brought : goal.returns-clause-brought
@@ -228,8 +239,23 @@ returns-clause-brought g c = λ tells next kept.
     let opened = c.opened.ensures.kept tells next first since (since_now g.S.Site next old kept) in
     let scanned = c.noted.ensures.kept tells next first since opened in
     let files = files_both g.S.Site old c.opened.new.site c.noted.new.site (c.opened.ensures.files tells) (c.noted.ensures.files tells) in
-    let noted : IsNoted first (g.S.Site.world c.noted.new.site) c.noted.new.graph.nodes = record { was = c.in_ok-graph.graph.nodes; stored = c.in_ok-graph.ensures.stored tells; scanned = c.in_ok-config.ensures.scanned; tree = files.tree } in
+    let noted =
+    noted_since first (g.S.Site.world c.opened.new.site) (g.S.Site.world c.noted.new.site) c.in_ok-graph.graph.nodes c.noted.new.graph.nodes c.in_ok-config.config (c.in_ok-graph.ensures.stored tells) c.in_ok-config.ensures.scanned
+    (c.in_ok-config.ensures.config tells) (c.opened.ensures.files tells).tree files.tree in
     c.in_ok-brought.ensures.brought tells next first since noted scanned
+
+pub returns-clause-reads : goal.returns-clause-reads
+returns-clause-reads g c = λ tells next kept.
+    let old = c.args.site.now in
+    let first = g.S.Site.world old in
+    let since = g.S.Site.moment old in
+    let opened = c.opened.ensures.kept tells next first since (since_now g.S.Site next old kept) in
+    let scanned = c.noted.ensures.kept tells next first since opened in
+    let files = files_both g.S.Site old c.opened.new.site c.noted.new.site (c.opened.ensures.files tells) (c.noted.ensures.files tells) in
+    let noted =
+    noted_since first (g.S.Site.world c.opened.new.site) (g.S.Site.world c.noted.new.site) c.in_ok-graph.graph.nodes c.noted.new.graph.nodes c.in_ok-config.config (c.in_ok-graph.ensures.stored tells) c.in_ok-config.ensures.scanned
+    (c.in_ok-config.ensures.config tells) (c.opened.ensures.files tells).tree files.tree in
+    c.in_ok-brought.ensures.reads tells next first since noted scanned c.requires.read
 
 pub returns-clause-within : goal.returns-clause-within
 returns-clause-within g c = λ tells next kept.
@@ -239,7 +265,9 @@ returns-clause-within g c = λ tells next kept.
     let opened = c.opened.ensures.kept tells next first since (since_now g.S.Site next old kept) in
     let scanned = c.noted.ensures.kept tells next first since opened in
     let files = files_both g.S.Site old c.opened.new.site c.noted.new.site (c.opened.ensures.files tells) (c.noted.ensures.files tells) in
-    let noted : IsNoted first (g.S.Site.world c.noted.new.site) c.noted.new.graph.nodes = record { was = c.in_ok-graph.graph.nodes; stored = c.in_ok-graph.ensures.stored tells; scanned = c.in_ok-config.ensures.scanned; tree = files.tree } in
+    let noted =
+    noted_since first (g.S.Site.world c.opened.new.site) (g.S.Site.world c.noted.new.site) c.in_ok-graph.graph.nodes c.noted.new.graph.nodes c.in_ok-config.config (c.in_ok-graph.ensures.stored tells) c.in_ok-config.ensures.scanned
+    (c.in_ok-config.ensures.config tells) (c.opened.ensures.files tells).tree files.tree in
     c.brought.ensures.within tells next first since noted scanned
 
 pub returns-clause-owns : goal.returns-clause-owns
@@ -253,7 +281,9 @@ returns-clause-owns g c = λ tells next kept.
     let at_noted = c.noted.ensures.owns tells old since opened.began at_opened in
     let scanned = c.noted.ensures.kept tells next first since opened in
     let files = files_both g.S.Site old c.opened.new.site c.noted.new.site (c.opened.ensures.files tells) (c.noted.ensures.files tells) in
-    let noted : IsNoted first (g.S.Site.world c.noted.new.site) c.noted.new.graph.nodes = record { was = c.in_ok-graph.graph.nodes; stored = c.in_ok-graph.ensures.stored tells; scanned = c.in_ok-config.ensures.scanned; tree = files.tree } in
+    let noted =
+    noted_since first (g.S.Site.world c.opened.new.site) (g.S.Site.world c.noted.new.site) c.in_ok-graph.graph.nodes c.noted.new.graph.nodes c.in_ok-config.config (c.in_ok-graph.ensures.stored tells) c.in_ok-config.ensures.scanned
+    (c.in_ok-config.ensures.config tells) (c.opened.ensures.files tells).tree files.tree in
     c.brought.ensures.owns tells next since old noted scanned at_noted
 
 -- ---- what a crash may leave of a store that can't be read
@@ -321,5 +351,7 @@ returns-in_err-brought-clause-full g c = λ tells next kept.
     let opened = c.opened.ensures.kept tells next first since (since_now g.S.Site next old kept) in
     let scanned = c.noted.ensures.kept tells next first since opened in
     let files = files_both g.S.Site old c.opened.new.site c.noted.new.site (c.opened.ensures.files tells) (c.noted.ensures.files tells) in
-    let noted : IsNoted first (g.S.Site.world c.noted.new.site) c.noted.new.graph.nodes = record { was = c.in_ok-graph.graph.nodes; stored = c.in_ok-graph.ensures.stored tells; scanned = c.in_ok-config.ensures.scanned; tree = files.tree } in
+    let noted =
+    noted_since first (g.S.Site.world c.opened.new.site) (g.S.Site.world c.noted.new.site) c.in_ok-graph.graph.nodes c.noted.new.graph.nodes c.in_ok-config.config (c.in_ok-graph.ensures.stored tells) c.in_ok-config.ensures.scanned
+    (c.in_ok-config.ensures.config tells) (c.opened.ensures.files tells).tree files.tree in
     err_if c.from_residual-in_err-brought.result c.in_err-brought.field-0.0 (FillsStore (g.S.Site.world c.brought.new.site)) c.from_residual-in_err-brought.ensures.1 (c.in_err-brought.ensures.full tells next first since noted scanned)

@@ -1,5 +1,4 @@
-use Rattle.std.proofs.Common.{◌↔◌, inl, List, Contains, sym, ap, subst, ◌∙◌}
-use Rattle.tup_path.specs.Name.{Names}
+use Rattle.std.proofs.Common.{inl, ap, subst, ◌∙◌}
 use Rattle.tup_table.specs.Entries.{entries_of}
 use Rattle.tup_table.specs.Table.{entries_in}
 use Rattle.tup_graph.specs.Opening.{IsGraphOf}
@@ -11,13 +10,13 @@ use Rattle.tup_promise.proofs.Handed.{err_if, err_so}
 use Rattle.tup_phases.specs.Kept.{BlamesSources}
 use Rattle.tup_phases.specs.Prepared.{StopsSurvey}
 use Rattle.tup_phases.specs.Room.{FillsStore}
-use Rattle.tup_phases.proofs.Keeping.{graph_kept, now_kept, over, same_sources}
+use Rattle.tup_phases.proofs.Keeping.{graph_kept, now_kept, over}
+use Rattle.tup_phases.proofs.Removing.{removes_these}
 use Rattle.tup_phases.proofs.Within.{own_within}
 use Rattle.tup_todo.specs.Listing.{due_rules, vanished}
-use Rattle.tup_todo.specs.Lists.{GoesOnFromStore, IsToRemove}
+use Rattle.tup_todo.specs.Lists.{GoesOnFromStore}
 use Rattle.tup_todo.proofs.Again.{due_again}
 use Rattle.tup_todo.proofs.Listed.{vanished_stand}
-use Rattle.tup_todo.proofs.Removed.{listed_is_to_remove}
 use Rattle.tup_todo.proofs.todo.todo_site.Goals as goal
 
 -- ---- it isn't known what is to be done
@@ -207,12 +206,10 @@ returns-clause-lists g c = λ tells next kept.
     let is = subst (IsGraphOf (entries_in graph.table)) c.nodes.ensures.value (c.nodes.ensures.graph c.in_ok-graph.ensures.fresh) in
     let stored = has_graph g.S.Site next tupfiles known first since graph at (over g.S.Site next first since graph at stands is since_then) (λ t u w within there. site_laws.earlier at t u w tells within there) left (site_laws.present at tells) in
     let is_kept = graph_kept g.S.Site tells site_laws.earlier site_laws.present next first since graph at stands is since_then in
-    let sources = same_sources g.S.Site tells site_laws.earlier site_laws.present next first since graph at stands is since_then kept.now.graph kept.now.reads in
     let seen = c.in_ok-graph.ensures.seen tells in
     let brought = c.in_ok-graph.ensures.brought tells next kept in
     let here = own_within left graph.nodes stored (c.flags_are_of_rules.ensures (entries_of stored.commits) graph.nodes stored.graph) in
     let removes_are = c.in_ok-removes.ensures ∙ ap vanished c.nodes.ensures.value ∙ vanished_stand graph.nodes left.tree seen in
-    let listed = λ (path : Names). listed_is_to_remove first left kept.now.graph graph.nodes kept.now.reads is_kept.owners brought.rules (c.surveyed.ensures.files tells).tree sources path in
     record {
       graph = graph.nodes;
       stored = stored;
@@ -220,8 +217,8 @@ returns-clause-lists g c = λ tells next kept.
       due = brought.due;
       again = λ number. (here.due number, due_again next known left graph.nodes is_kept seen stored number);
       runs = c.in_ok-runs.ensures ∙ ap due_rules c.nodes-2.ensures.value;
-      removes = removes_are;
-      removed = λ path. subst (λ (paths : List Names). Contains paths path ↔ IsToRemove first path) (sym removes_are) (listed path);
+      read = c.in_ok-graph.ensures.reads tells next kept;
+      removes = removes_these first graph.nodes left.tree brought (c.surveyed.ensures.files tells).tree _ removes_are;
     }
 
 -- ---- what a crash may leave of a store that can't be read

@@ -24,6 +24,7 @@ use Rattle.tup_top.specs.Order.{Wanted, goes_on, order, used, used_of}
 use Rattle.tup_top.specs.Printed.{Printed, PrintsUpdate, SaysWhyOf}
 use Rattle.tup_top.specs.Status.{IfCame}
 use Rattle.tup_top.specs.Telling.{Hears, TellsUpdate}
+use Rattle.tup_top.specs.Truth.{IsTrueLog}
 use Rattle.tup_top.specs.declared.status.Status.TheVariants.{Memory}
 use Rattle.tup_top.specs.Promise.{OnceDone, FindsOut, ForTodo, ForUpdate, ForVerify, Lasts, Logs, NothingDone, QuietStep, HasBegunCause, HasComparedCause, HasCrewCause, HasDemoCause, HasPlainCause, IsRefusal, Spares, counts}
 use Rattle.tup_top.proofs.Begun.{initializes_so}
@@ -33,6 +34,7 @@ use Rattle.tup_top.proofs.Causes.{nothing_logged, says_none}
 use Rattle.tup_top.proofs.Idle.{idle, memory_causes, memory_found_out, memory_for_init, memory_for_update, memory_for_verify, memory_logs, memory_opens, memory_prints}
 use Rattle.tup_top.proofs.Reported.{tells_no_folder, tells_nothing, unheard}
 use Rattle.tup_top.proofs.Success.{compares_so}
+use Rattle.tup_top.proofs.True.{nothing_true}
 use Rattle.tup_top.proofs.Untouched.{untouched_crashes, untouched_flags, untouched_needed, untouched_states}
 use Rattle.tup_top.proofs.call.tup.Goals as goal
 
@@ -101,8 +103,8 @@ returns-in-Ok-Upd-clause-printed g c = λ shows.
     let held = g.K.Sink.held c.args.out.now in
     let holds = g.K.Sink.held update.new.out in
     let hears = Hears g.T.Reporter.told g.T.Reporter.faults c.args.tellers.now.items update.new.tellers.items update.result.failed.items in
-    subst (λ (w : Wanted). Printed (used w (length c.args.crew.items)) g.S.Site.tells g.R.Runner.tells (IsTrue g.S.Site.tells × IsKeptBySome g.S.Site c.args.site) (SaysWhyOf g.S.Site c.args.site) hears w g.R.Runner.next old new update.result.ran before now held holds update.result.status) (sym is)
-    (subst (λ (n : ℕ). PrintsUpdate n g.S.Site.tells c.in-Ok-Upd.keep_going (SaysWhyOf g.S.Site c.args.site c.in-Ok-Upd.explain) hears old new update.result.ran before now held holds update.result.status) (c.used-jobs.ensures ∙ ap (used_of c.in-Ok-Upd.jobs) (c.len.ensures ∙ c.args.crew.ok.0)) (update.ensures.printed shows))
+    subst (λ (w : Wanted). Printed (used w (length c.args.crew.items)) g.S.Site.tells g.R.Runner.tells (IsTrue g.S.Site.tells × IsKeptBySome g.S.Site c.args.site) (SaysWhyOf g.S.Site c.args.site) (IsTrueLog g.S.Site g.R.Runner c.args.site) hears w g.R.Runner.next old new update.result.ran before now held holds update.result.status) (sym is)
+    (subst (λ (n : ℕ). PrintsUpdate n g.S.Site.tells c.in-Ok-Upd.keep_going (SaysWhyOf g.S.Site c.args.site c.in-Ok-Upd.explain) (IsTrueLog g.S.Site g.R.Runner c.args.site) hears old new update.result.ran before now held holds update.result.status) (c.used-jobs.ensures ∙ ap (used_of c.in-Ok-Upd.jobs) (c.len.ensures ∙ c.args.crew.ok.0)) (update.ensures.printed shows))
 
 pub returns-in-Ok-Upd-clause-tells : goal.returns-in-Ok-Upd-clause-tells
 returns-in-Ok-Upd-clause-tells g c = λ _.
@@ -114,8 +116,8 @@ returns-in-Ok-Upd-clause-tells g c = λ _.
     let before = g.K.Sink.faults c.args.out.now in
     let now = g.K.Sink.faults update.new.out in
     let hears = Hears g.T.Reporter.told g.T.Reporter.faults c.args.tellers.now.items update.new.tellers.items update.result.failed.items in
-    subst (λ (w : Wanted). TellsUpdate (used w (length c.args.crew.items)) g.S.Site.tells (goes_on w) hears old new update.result.ran before now update.result.status) (sym is)
-    (subst (λ (n : ℕ). TellsUpdate n g.S.Site.tells c.in-Ok-Upd.keep_going hears old new update.result.ran before now update.result.status) (c.used-jobs.ensures ∙ ap (used_of c.in-Ok-Upd.jobs) (c.len.ensures ∙ c.args.crew.ok.0)) update.ensures.tells)
+    subst (λ (w : Wanted). TellsUpdate (used w (length c.args.crew.items)) g.S.Site.tells (goes_on w) (IsTrueLog g.S.Site g.R.Runner c.args.site) hears old new update.result.ran before now update.result.status) (sym is)
+    (subst (λ (n : ℕ). TellsUpdate n g.S.Site.tells c.in-Ok-Upd.keep_going (IsTrueLog g.S.Site g.R.Runner c.args.site) hears old new update.result.ran before now update.result.status) (c.used-jobs.ensures ∙ ap (used_of c.in-Ok-Upd.jobs) (c.len.ensures ∙ c.args.crew.ok.0)) update.ensures.tells)
 
 pub returns-in-Ok-Upd-clause-blamed_reporter : goal.returns-in-Ok-Upd-clause-blamed_reporter
 returns-in-Ok-Upd-clause-blamed_reporter g c = c.update_by-status.ensures.blamed_reporter
@@ -244,7 +246,7 @@ returns-clause-tells g c = λ _.
     let tellers = c.args.tellers.now.items in
     let told = g.T.Reporter.told in
     let faults = g.T.Reporter.faults in
-    tells_nothing (used (order c.args.words.now) (length c.args.crew.items)) g.S.Site.tells (goes_on (order c.args.words.now)) (Hears told faults tellers tellers c.nobody-in-Err-Memory.result.items)
+    tells_nothing (used (order c.args.words.now) (length c.args.crew.items)) g.S.Site.tells (goes_on (order c.args.words.now)) (IsTrueLog g.S.Site g.R.Runner c.args.site) (nothing_true g.S.Site g.R.Runner c.args.site) (Hears told faults tellers tellers c.nobody-in-Err-Memory.result.items)
     (unheard told faults tellers c.nobody-in-Err-Memory.result.items c.nobody-in-Err-Memory.ensures nothing_logged Memory) (g.S.Site.world c.args.site) c.new-in-Err-Memory.result c.new-in-Err-Memory.ensures (g.K.Sink.faults c.args.out.now)
     (g.K.Sink.faults c.args.out.now)
 
@@ -262,7 +264,7 @@ returns-clause-printed g c = λ _.
     let tellers = c.args.tellers.now.items in
     let told = g.T.Reporter.told in
     let faults = g.T.Reporter.faults in
-    memory_prints (used (order c.args.words.now) (length c.args.crew.items)) g.S.Site.tells g.R.Runner.tells (IsTrue g.S.Site.tells × IsKeptBySome g.S.Site c.args.site) (SaysWhyOf g.S.Site c.args.site) (says_none g.S.Site c.args.site) (Hears told faults tellers tellers c.nobody-in-Err-Memory.result.items) (unheard told faults tellers c.nobody-in-Err-Memory.result.items c.nobody-in-Err-Memory.ensures nothing_logged Memory) (order c.args.words.now) g.R.Runner.next (g.S.Site.world c.args.site) c.new-in-Err-Memory.result (g.K.Sink.faults c.args.out.now) (g.K.Sink.held c.args.out.now)
+    memory_prints (used (order c.args.words.now) (length c.args.crew.items)) g.S.Site.tells g.R.Runner.tells (IsTrue g.S.Site.tells × IsKeptBySome g.S.Site c.args.site) (SaysWhyOf g.S.Site c.args.site) (says_none g.S.Site c.args.site) (IsTrueLog g.S.Site g.R.Runner c.args.site) (nothing_true g.S.Site g.R.Runner c.args.site) (Hears told faults tellers tellers c.nobody-in-Err-Memory.result.items) (unheard told faults tellers c.nobody-in-Err-Memory.result.items c.nobody-in-Err-Memory.ensures nothing_logged Memory) (order c.args.words.now) g.R.Runner.next (g.S.Site.world c.args.site) c.new-in-Err-Memory.result (g.K.Sink.faults c.args.out.now) (g.K.Sink.held c.args.out.now)
     c.new-in-Err-Memory.ensures
 
 pub returns-clause-logged : goal.returns-clause-logged

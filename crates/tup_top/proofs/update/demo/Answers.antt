@@ -39,7 +39,7 @@ returns-in-Ok g c =
       printed = λ shows. (
         ran,
         left,
-        unheard_prints _ _ _ _ _ nobody _ alone (SaysWhyOf steady.ghosts c.in-Ok.site false) (world_in c.in-Ok.site) left ran before now (g.K.Sink.held c.args.out.now) (g.K.Sink.held c.update.new.out) status
+        unheard_prints _ _ _ _ _ nobody _ alone (SaysWhyOf steady.ghosts c.in-Ok.site false) _ (world_in c.in-Ok.site) left ran before now (g.K.Sink.held c.args.out.now) (g.K.Sink.held c.update.new.out) status
             (λ log chains said. said.0.1) c.in-Ok.ensures.holds (c.update.ensures.printed shows),
       );
     }

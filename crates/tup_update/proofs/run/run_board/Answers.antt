@@ -1,6 +1,7 @@
-use Rattle.std.specs.Prelude.{Contains, IsTrue}
+use Rattle.std.specs.Prelude.{All, Contains, IsTrue}
 use Rattle.std.proofs.Common.{◌≡◌, ◌≢◌, ℕ, false, List, length, map, Option, None, Some, ap, sym, subst, ◌∙◌, []}
 use Rattle.std.proofs.lemmas.List.{length-map}
+use Rattle.std.proofs.lemmas.List.Elements.{All-weaker}
 use Rattle.std.specs.FinMap as finite
 use Rattle.tup_core.specs.declared.event.Cause.{Cause}
 use Rattle.tup_core.specs.declared.event.Cause.TheVariants as cause
@@ -25,17 +26,21 @@ use Rattle.tup_graph.specs.Graph.{GraphState}
 use Rattle.tup_graph.specs.Opening.{IsGraphOf}
 use Rattle.tup_stored_graph.specs.Held.{Held, is_fresh}
 use Rattle.tup_core.specs.Sound.{IsAcyclic}
+use Rattle.tup_promise.specs.BadEnds.{IsTrueEnd}
 use Rattle.tup_promise.specs.Crashes.{SourcesStay}
 use Rattle.tup_promise.specs.Needed.{HasName, RunsAll}
 use Rattle.tup_promise.specs.Prepared.{IsPrepared}
 use Rattle.tup_promise.specs.Ran.{CrewRuns, command_of}
+use Rattle.tup_ends.proofs.Due.{asked}
 use Rattle.tup_update.specs.Promised.{Promises, WasPrepared}
+use Rattle.tup_update.proofs.BadEnds.{IsNotedAs, blames_first, first_blamed, log_noted}
 use Rattle.tup_update.proofs.FirstBad.{HasBad, bad_is_there}
 use Rattle.tup_update.proofs.Promised.{blames_rules, done_by, files_by, full_by, goes_on, runs_all_by, stops_at_bad}
 use Rattle.tup_update.proofs.run.run_board.Given.{Over}
 use Rattle.tup_update.proofs.run.run_board.Goals.{After-told}
 use Rattle.tup_update.specs.Ended.{TellsFor, ends, told_ends}
 use Rattle.tup_update.specs.Names.{name_in}
+use Rattle.tup_update.specs.Steps.{steps_of}
 use Rattle.tup_update.proofs.Logging.{board_logged}
 use Rattle.tup_update.proofs.run.run_board.Goals as goal
 
@@ -182,6 +187,16 @@ bad_at g c name verdict is = stops_at_bad c.args.plan.now.rules (bads g c) c.dra
 has_name : (g : Over) (c : After-told g) (name : RuleName) (verdict : Verdict) (at : StopsAtBad c.args.plan.now.rules (bads g c) name verdict) → HasName (plan_of c.drain_by-done.result.board).rules at.at name
 has_name g c name verdict at = subst (λ (p : Plan). HasName p.rules at.at name) (sym (plan_is g c)) (at.rule, at.is.here, sym at.name_is)
 
+-- what the log tells of bad rules is noted on the board
+log_bads : (g : Over) (c : After-told g) → All (IsNotedAs (plan_of c.drain_by-done.result.board).rules (bads g c)) c.told.result.log.ended
+log_bads g c =
+    let board = c.drain_by-done.result.board in
+    let ended = c.told.result.log.ended in
+    let stopped = c.told.result.stopped in
+    log_noted (plan_of board) (finite.entries board.opening.graph.nodes.seen) board.history c.into_parts-parts.ensures.keeps.run ended stopped
+    (subst (λ (p : Plan). TellsFor (told_ends p.rules (ends board.history)) [] ended stopped) (sym (plan_is g c))
+    (subst (λ (events : List CoreEvent). TellsFor (told_ends c.args.plan.now.rules (ends events)) [] ended stopped) c.into_parts-parts.ensures.history c.told.ensures.tells))
+
 pub returns-clause-promised : goal.returns-clause-promised
 returns-clause-promised g c = λ old tells means was.
     let board = c.drain_by-done.result.board in
@@ -203,7 +218,7 @@ returns-clause-promised g c = λ old tells means was.
     (λ name verdict is off one. let at = bad_at g c name verdict is in
     c.bad_stands_last.ensures board 0 at.at verdict name ran keeps (names_run g c) ((c.drain_by-done.ensures.alone one).own) (ap (λ (p : Plan). p.keep_going) (plan_is g c) ∙ off) at.is.came
     (has_name g c name verdict at)) in
-    subst (λ at. Promises g.S.Site g.R.Runner keep_going (jobs g c) old at ran stopped) (sym (c.told.ensures.site ∙ c.into_parts-parts.ensures.site)) (record {
+    subst (λ at. Promises g.S.Site g.R.Runner keep_going (jobs g c) old at c.told.result.log stopped) (sym (c.told.ensures.site ∙ c.into_parts-parts.ensures.site)) (record {
       files = files_by next first (g.S.Site.world board.site) stopped (λ none.
           c.done_is_finished.ensures board first since tells means keeps (graph_read g c) opened.prepared once (all_done g c none));
       needed = c.ran_what_was_due.ensures board first since keep_going (jobs g c) ran stopped tells means keeps opened.prepared (names_run g c) runs;
@@ -213,6 +228,14 @@ returns-clause-promised g c = λ old tells means was.
           let at = bad_at g c name verdict is in
           c.bad_rules_are_bad.ensures board first since at.at ran name verdict tells means keeps opened.prepared (names_run g c) at.is.came (has_name g c name verdict at))
           (large_there c.args.plan.now.rules (bads g c) g.S.Site g.R.Runner board keeps tells c.drain_by-done.result.drained stopped c.drain_by-done.ensures.drains (stops_by g c));
+      bads = All-weaker (IsNotedAs (plan_of board).rules (bads g c)) (IsTrueEnd next first ran) (λ one noted is_bad.
+          let it = noted is_bad in
+          c.bad_rules_are_bad.ensures board first since it.0 ran one.rule one.verdict tells means keeps opened.prepared (names_run g c) it.2 it.1)
+          c.told.result.log.ended (log_bads g c);
+      first = blames_first first c.told.result.log stopped (λ name verdict is.
+          let at = bad_at g c name verdict is in
+          first_blamed first (plan_of board).rules (asked g.S.Site g.R.Runner board keeps ran (names_run g c) next first since opened.prepared) (bads g c) at.at at.is.first name (has_name g c name verdict at) c.told.result.log.ended
+          (log_bads g c));
       full = full_by g.S.Site old board.site ran stopped (λ is.
           c.full_is_true.ensures board first since ran tells keeps opened.prepared (names_run g c)
           (stopped_full c.args.plan.now.rules (bads g c) (state board) c.drain_by-done.result.drained stopped c.drain_by-done.ensures.drains (stops_by g c) is));
@@ -237,6 +260,7 @@ returns-clause-logged g c =
     let here = c.into_parts-parts.ensures.history in
     board_logged board c.args.plan.now (plan_is g c) c.into_parts-parts.ensures.keeps.run (jobs g c) c.drain_by-done.ensures.below c.drain_by-done.ensures.over.0 told.result.log c.drain_by-done.result.drained told.result.stopped c.drain_by-done.ensures.drains (stops_by g c)
     (subst (λ (events : List CoreEvent). map Some told.result.log.ran ≡ map (name_in c.args.plan.now.rules) (claims events)) here told.ensures.named)
+    (told.ensures.steps ∙ ap steps_of here)
     (subst (λ (events : List CoreEvent). TellsFor (told_ends c.args.plan.now.rules (ends events)) [] told.result.log.ended told.result.stopped) here told.ensures.tells)
 
 pub told-requires-clause-none : goal.told-requires-clause-none

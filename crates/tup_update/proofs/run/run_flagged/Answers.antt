@@ -6,12 +6,13 @@ use Rattle.tup_apart.specs.Run.{MayRun}
 use Rattle.tup_promise.specs.declared.log.Log.{Log}
 use Rattle.tup_ends.proofs.Done.{flags_due}
 use Rattle.tup_update.specs.Promised.{PromisesOver}
-use Rattle.tup_update.proofs.Promised.{nothing_due, unchanged, unchanged_sources}
+use Rattle.tup_update.proofs.Promised.{begins_none, nothing_due, unchanged, unchanged_sources}
 use Rattle.tup_phases.specs.Logged.{IsLogged}
 use Rattle.tup_update.proofs.Chained.{none_said}
 use Rattle.tup_update.proofs.Logging.{memory_logged, none_logged}
 use Rattle.tup_update.proofs.Crewed.{crew_memory}
 use Rattle.tup_update.proofs.Whole.{memory_counted, memory_ran, memory_stops, none_ran}
+use Rattle.tup_update.proofs.Done.{same_done}
 use Rattle.tup_update.proofs.run.run_flagged.Goals as goal
 
 -- the plan that was found may be run
@@ -34,9 +35,9 @@ pub returns-then-none_flagged-clause-promised : goal.returns-then-none_flagged-c
 returns-then-none_flagged-clause-promised g c =
     let unflagged : (number : ℕ) → is_flagged c.args.graph.nodes number ≡ false =
     subst (λ (nodes : GraphState). (number : ℕ) → is_flagged nodes number ≡ false) c.nodes.ensures.value (c.none_flagged.ensures c.if-none_flagged.true) in
-    nothing_due g.S.Site g.R.Runner c.args.asked.keep_going (length c.args.crew.items) c.args.graph c.args.site c.args.log.ran
+    nothing_due g.S.Site g.R.Runner c.args.asked.keep_going (length c.args.crew.items) c.args.graph c.args.site c.args.log
     (λ tells first since prepared. let site_laws = g.met.S.Site g.world.𝓛 g.world.𝓜 g.world.𝓡 ((λ s x. x), (λ x. x), (λ x. x), λ x. x) in flags_due g.S.Site g.R.Runner.next first since c.args.graph c.args.site prepared (λ t u w within left. site_laws.earlier c.args.site t u w tells within left) (site_laws.present c.args.site tells))
-    c.requires.none.ran unflagged (λ first since tells prepared. c.prepared_is_finished.ensures g.R.Runner.next first since c.args.graph tells prepared unflagged)
+    c.requires.none unflagged (λ first since tells prepared. c.prepared_is_finished.ensures g.R.Runner.next first since c.args.graph tells prepared unflagged)
     (λ first since tells prepared. c.prepared_is_settled.ensures g.R.Runner.next first since c.args.graph tells prepared unflagged)
 
 pub returns-then-none_flagged-clause-sources : goal.returns-then-none_flagged-clause-sources
@@ -50,7 +51,7 @@ run_plan-requires-clause-may_run g c κs lives = found_may_run c.args.graph.node
 pub returns-in-Ok-Some-clause-promised : goal.returns-in-Ok-Some-clause-promised
 returns-in-Ok-Some-clause-promised g c =
     let done = c.run_plan.result in
-    subst (λ (going : Bool). PromisesOver g.S.Site g.R.Runner going (length c.args.crew.items) c.args.graph c.args.site done.site done.log.ran done.stopped)
+    subst (λ (going : Bool). PromisesOver g.S.Site g.R.Runner going (length c.args.crew.items) c.args.graph c.args.site done.site done.log done.stopped)
     (found_going c.args.asked.keep_going c.in-Ok-Some.field-0 c.in-Ok-Some.plan c.in-Ok-Some.field-0-is c.in-Ok-Some.ensures.keep_going) c.run_plan.ensures.promised
 
 -- ---- there was no memory for a plan, or it may not be run
@@ -64,9 +65,9 @@ returns-in_default-clause-sources g c = unchanged_sources g.S.Site c.args.graph 
 pub returns-in_default-clause-promised : goal.returns-in_default-clause-promised
 returns-in_default-clause-promised g c =
     let done = c.without_memory in
-    unchanged g.S.Site g.R.Runner c.args.asked.keep_going (length c.args.crew.items) c.args.graph c.args.site done.result.site done.result.log.ran done.result.stopped
+    unchanged g.S.Site g.R.Runner c.args.asked.keep_going (length c.args.crew.items) c.args.graph c.args.site done.result.site done.result.log done.result.stopped
     (λ tells first since prepared. let site_laws = g.met.S.Site g.world.𝓛 g.world.𝓜 g.world.𝓡 ((λ s x. x), (λ x. x), (λ x. x), λ x. x) in flags_due g.S.Site g.R.Runner.next first since c.args.graph c.args.site prepared (λ t u w within left. site_laws.earlier c.args.site t u w tells within left) (site_laws.present c.args.site tells))
-    done.ensures.site (ap (λ (log : Log). log.ran) done.ensures.log ∙ c.requires.none.ran) done.ensures.stopped
+    done.ensures.site (begins_none c.args.log done.result.log done.ensures.log c.requires.none) done.ensures.stopped
 
 pub returns-in_default-clause-stops : goal.returns-in_default-clause-stops
 returns-in_default-clause-stops g c = memory_stops c.without_memory.result.stopped c.without_memory.ensures.stopped
@@ -108,3 +109,11 @@ pub returns-in_default-clause-said : goal.returns-in_default-clause-said
 returns-in_default-clause-said g c =
     let done = c.without_memory in
     none_said c.args.asked.explain c.args.graph.nodes done.result.log done.result.because (ap (λ (log : Log). log.ended) done.ensures.log ∙ c.requires.none.ended) done.ensures.because
+
+-- ---- what was read and removed stays
+
+pub returns-then-none_flagged-clause-only_runs : goal.returns-then-none_flagged-clause-only_runs
+returns-then-none_flagged-clause-only_runs g c = record { read = refl; removed = refl }
+
+pub returns-in_default-clause-only_runs : goal.returns-in_default-clause-only_runs
+returns-in_default-clause-only_runs g c = same_done c.args.log c.without_memory.result.log c.without_memory.ensures.log

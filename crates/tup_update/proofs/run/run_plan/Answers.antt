@@ -10,12 +10,13 @@ use Rattle.tup_promise.specs.Cause.{CrewCountedCause}
 use Rattle.tup_promise.specs.declared.log.Log.{Log}
 use Rattle.tup_ends.proofs.Done.{flags_due}
 use Rattle.tup_update.specs.Promised.{KeepsSources, PromisesOver}
-use Rattle.tup_update.proofs.Promised.{unchanged, unchanged_sources}
+use Rattle.tup_update.proofs.Promised.{begins_none, unchanged, unchanged_sources}
 use Rattle.tup_update.specs.Because.{AreChainsOf}
 use Rattle.tup_update.proofs.Chained.{are_ready, none_said, said}
 use Rattle.tup_update.proofs.Logging.{memory_logged}
 use Rattle.tup_update.proofs.Crewed.{crew_memory}
 use Rattle.tup_update.proofs.Whole.{memory_counted, memory_ran, memory_stops}
+use Rattle.tup_update.proofs.Done.{same_done}
 use Rattle.tup_update.proofs.run.run_plan.Goals as goal
 
 -- a board at its opening is the one of the graph and the site that it was made of
@@ -45,7 +46,7 @@ returns-in-Ok-new-clause-counted g c =
 pub returns-in-Ok-new-clause-promised : goal.returns-in-Ok-new-clause-promised
 returns-in-Ok-new-clause-promised g c =
     let done = c.run_board.result in
-    subst (λ (o : Opening _). PromisesOver g.S.Site g.R.Runner c.args.plan.now.keep_going (length c.args.crew.items) o.graph o.site done.site done.log.ran done.stopped) (ap (λ (board : BoardState _). board.opening) c.in-Ok-new.ensures.board) c.run_board.ensures.promised
+    subst (λ (o : Opening _). PromisesOver g.S.Site g.R.Runner c.args.plan.now.keep_going (length c.args.crew.items) o.graph o.site done.site done.log done.stopped) (ap (λ (board : BoardState _). board.opening) c.in-Ok-new.ensures.board) c.run_board.ensures.promised
 
 pub returns-in-Ok-new-clause-sources : goal.returns-in-Ok-new-clause-sources
 returns-in-Ok-new-clause-sources g c =
@@ -64,9 +65,9 @@ returns-in-Err-clause-sources g c =
 pub returns-in-Err-clause-promised : goal.returns-in-Err-clause-promised
 returns-in-Err-clause-promised g c =
     let done = c.without_memory-in-Err in
-    unchanged g.S.Site g.R.Runner c.args.plan.now.keep_going (length c.args.crew.items) c.args.graph c.args.site done.result.site done.result.log.ran done.result.stopped
+    unchanged g.S.Site g.R.Runner c.args.plan.now.keep_going (length c.args.crew.items) c.args.graph c.args.site done.result.site done.result.log done.result.stopped
     (λ tells first since prepared. let site_laws = g.met.S.Site g.world.𝓛 g.world.𝓜 g.world.𝓡 ((λ s x. x), (λ x. x), (λ x. x), λ x. x) in flags_due g.S.Site g.R.Runner.next first since c.args.graph c.args.site prepared (λ t u w within left. site_laws.earlier c.args.site t u w tells within left) (site_laws.present c.args.site tells))
-    (done.ensures.site ∙ ap (λ (back : _ × Held × BoardFault). back.0) c.in-Err.ensures.memory) (ap (λ (log : Log). log.ran) done.ensures.log ∙ c.requires.none.ran) done.ensures.stopped
+    (done.ensures.site ∙ ap (λ (back : _ × Held × BoardFault). back.0) c.in-Err.ensures.memory) (begins_none c.args.log done.result.log done.ensures.log c.requires.none) done.ensures.stopped
 
 pub returns-in-Err-clause-stops : goal.returns-in-Err-clause-stops
 returns-in-Err-clause-stops g c = memory_stops c.without_memory-in-Err.result.stopped c.without_memory-in-Err.ensures.stopped
@@ -97,9 +98,9 @@ returns-in_default-clause-sources g c = unchanged_sources g.S.Site c.args.graph 
 pub returns-in_default-clause-promised : goal.returns-in_default-clause-promised
 returns-in_default-clause-promised g c =
     let done = c.without_memory in
-    unchanged g.S.Site g.R.Runner c.args.plan.now.keep_going (length c.args.crew.items) c.args.graph c.args.site done.result.site done.result.log.ran done.result.stopped
+    unchanged g.S.Site g.R.Runner c.args.plan.now.keep_going (length c.args.crew.items) c.args.graph c.args.site done.result.site done.result.log done.result.stopped
     (λ tells first since prepared. let site_laws = g.met.S.Site g.world.𝓛 g.world.𝓜 g.world.𝓡 ((λ s x. x), (λ x. x), (λ x. x), λ x. x) in flags_due g.S.Site g.R.Runner.next first since c.args.graph c.args.site prepared (λ t u w within left. site_laws.earlier c.args.site t u w tells within left) (site_laws.present c.args.site tells))
-    done.ensures.site (ap (λ (log : Log). log.ran) done.ensures.log ∙ c.requires.none.ran) done.ensures.stopped
+    done.ensures.site (begins_none c.args.log done.result.log done.ensures.log c.requires.none) done.ensures.stopped
 
 pub returns-in_default-clause-stops : goal.returns-in_default-clause-stops
 returns-in_default-clause-stops g c = memory_stops c.without_memory.result.stopped c.without_memory.ensures.stopped
@@ -155,3 +156,11 @@ pub returns-in_default-clause-said : goal.returns-in_default-clause-said
 returns-in_default-clause-said g c =
     let done = c.without_memory in
     none_said c.args.explain c.args.graph.nodes done.result.log done.result.because (ap (λ (log : Log). log.ended) done.ensures.log ∙ c.requires.none.ended) done.ensures.because
+
+-- ---- what was read and removed stays
+
+pub returns-in-Err-clause-only_runs : goal.returns-in-Err-clause-only_runs
+returns-in-Err-clause-only_runs g c = same_done c.args.log c.without_memory-in-Err.result.log c.without_memory-in-Err.ensures.log
+
+pub returns-in_default-clause-only_runs : goal.returns-in_default-clause-only_runs
+returns-in_default-clause-only_runs g c = same_done c.args.log c.without_memory.result.log c.without_memory.ensures.log

@@ -1,4 +1,5 @@
-use Rattle.std.proofs.Common.{◌≡◌, true, List, [], map, Some, All, sym, subst, ◌∙◌}
+use Rattle.std.proofs.Common.{◌≡◌, ◌≤◌, ◌+◌, true, List, [], length, map, Some, All, refl, ap, sym, subst, arith, ◌∙◌}
+use Rattle.std.specs.Prelude.{vec_capacity, vec_len}
 use Rattle.std.specs.Bool.{nat_eq}
 use Rattle.std.specs.List.{IsDistinct}
 use Rattle.std.specs.Option.{IfSome, is_some}
@@ -8,8 +9,10 @@ use Rattle.tup_promise.specs.declared.log.EndedRule.{EndedRule}
 use Rattle.tup_update.specs.Ended.{TellsFor, ends, numbers, told_ends}
 use Rattle.tup_update.specs.Names.{IsReadyFor, value_at}
 use Rattle.tup_update.specs.Run.{OfBads, StopsBy}
+use Rattle.tup_update.specs.Steps.{steps_of}
 use Rattle.tup_update.proofs.Chained.{ready_for, say_why_ended}
 use Rattle.tup_update.proofs.Commands.{all_named, all_some, have_names, ran_commands}
+use Rattle.tup_update.proofs.Interleaving.{steps_fit}
 use Rattle.tup_update.proofs.Logging.{ended_once, tells_front}
 use Rattle.tup_update.proofs.Telling.{names_alike}
 use Rattle.tup_update.proofs.run.told.Goals as goal
@@ -99,3 +102,23 @@ returns-clause-why g c = λ nodes.
     let front = tells_front whole [] ended told.result tells in
     say_why_ended nodes plan (ends history) ended front.0 because front.1 ends_reached (have_names plan (numbers (ends history)) c.requires.range ends_reached) chains
     (subst (λ (events : List CoreEvent). IfSome chains (λ values. map Some because ≡ map (value_at values) (numbers (ends events)))) c.as_slice-history.ensures c.ended_chains-because.ensures.ended)
+
+-- ---- how the begins and the ends followed each other
+
+pub in_history-requires-clause-none : goal.in_history-requires-clause-none
+in_history-requires-clause-none g c = c.requires.steps.none
+
+pub in_history-requires-clause-room : goal.in_history-requires-clause-room
+in_history-requires-clause-room g c =
+    let plan = c.args.plan.now in
+    let history = c.args.parts.history in
+    let steps = c.args.known.steps in
+    let room = c.requires.steps.room in
+    let few = steps_fit plan c.requires.run.0 history c.requires.run.1 (c.claimed_once.ensures.reached plan c.requires.run.0 history c.requires.run.1) in
+    subst (λ (events : List CoreEvent). vec_len steps.taken + length (steps_of events) ≤ vec_capacity steps.taken) (sym c.as_slice-history.ensures) (omega (arith, room, few))
+
+pub returns-clause-steps : goal.returns-clause-steps
+returns-clause-steps g c = c.in_history.ensures ∙ ap steps_of c.as_slice-history.ensures
+
+pub returns-clause-only_runs : goal.returns-clause-only_runs
+returns-clause-only_runs g c = record { read = refl; removed = refl }

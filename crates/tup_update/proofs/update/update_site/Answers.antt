@@ -2,15 +2,18 @@ use Rattle.std.proofs.Common.{◌++◌, ℕ, length, map, subst, sym, ◌∙◌}
 use Rattle.std.proofs.lemmas.Option.{none-some}
 use Rattle.tup_promise.specs.Cause.{CrewCountedCause}
 use Rattle.tup_promise.specs.Kept.{KeptHere}
+use Rattle.tup_promise.proofs.BadEnds.{none_bad}
 use Rattle.tup_ends.proofs.Stated.{kept_stated}
 use Rattle.tup_ends.proofs.Staying.{sources_kept}
 use Rattle.tup_phases.specs.Logged.{ended_rules}
+use Rattle.tup_update.proofs.BadEnds.{blames_before}
 use Rattle.tup_update.proofs.Chained.{counted, explained, none_counted, none_explained}
 use Rattle.tup_update.proofs.Promised.{blames_sources, full_before, runs_before}
 use Rattle.tup_update.proofs.Logging.{before_logged, running_spares}
 use Rattle.tup_update.proofs.Crewed.{crew_before}
 use Rattle.tup_update.proofs.Whole.{before_counted, before_ran, opened_running, within_before, within_running}
 use Rattle.tup_update.specs.Promised.{Promises}
+use Rattle.tup_update.proofs.Done.{running_did}
 use Rattle.tup_update.proofs.update.update_site.Given.{Over}
 use Rattle.tup_update.proofs.update.update_site.Goals.{After-run_flagged}
 use Rattle.tup_update.proofs.update.update_site.Goals as goal
@@ -18,7 +21,7 @@ use Rattle.tup_update.proofs.update.update_site.Goals as goal
 -- ---- it was brought up to date
 
 pub run_flagged-requires-clause-none : goal.run_flagged-requires-clause-none
-run_flagged-requires-clause-none g c κs lives = record { ran = c.prepared.ensures.none.ran ∙ c.new-log.ensures.ran; ended = c.prepared.ensures.none.ended ∙ c.new-log.ensures.ended }
+run_flagged-requires-clause-none g c κs lives = record { ran = c.prepared.ensures.none.ran ∙ c.new-log.ensures.ran; ended = c.prepared.ensures.none.ended ∙ c.new-log.ensures.ended; steps = c.prepared.ensures.none.steps ∙ c.new-log.ensures.steps }
 
 pub returns-in-Ok-clause-unopened : goal.returns-in-Ok-clause-unopened
 returns-in-Ok-clause-unopened g c = λ tells.
@@ -31,7 +34,7 @@ returns-in-Ok-clause-counted_cause g c =
     subst (λ (n : ℕ). CrewCountedCause (length c.args.crew.items) n (g.S.Site.faults done.site) done.stopped) c.in-Ok.ensures.counted c.run_flagged.ensures.counted
 
 -- all that is promised
-promised : (g : Over) (c : After-run_flagged g) → KeptHere g.S.Site g.R.Runner c.args.site → Promises g.S.Site g.R.Runner c.args.asked.keep_going (length c.args.crew.items) c.args.site c.run_flagged.result.site c.run_flagged.result.log.ran c.run_flagged.result.stopped
+promised : (g : Over) (c : After-run_flagged g) → KeptHere g.S.Site g.R.Runner c.args.site → Promises g.S.Site g.R.Runner c.args.asked.keep_going (length c.args.crew.items) c.args.site c.run_flagged.result.site c.run_flagged.result.log c.run_flagged.result.stopped
 promised g c here = c.run_flagged.ensures.promised c.args.site here.tells here.means (record {
   prepared = c.in-Ok.ensures.prepared here.tells g.R.Runner.next here.kept;
   owns = c.prepared.ensures.owns here.tells g.R.Runner.next here.kept;
@@ -53,6 +56,12 @@ returns-in-Ok-clause-states g c = λ here. (promised g c here).states
 
 pub returns-in-Ok-clause-blamed : goal.returns-in-Ok-clause-blamed
 returns-in-Ok-clause-blamed g c = λ here. (promised g c here).blamed
+
+pub returns-in-Ok-clause-bads : goal.returns-in-Ok-clause-bads
+returns-in-Ok-clause-bads g c = λ here. (promised g c here).bads
+
+pub returns-in-Ok-clause-first : goal.returns-in-Ok-clause-first
+returns-in-Ok-clause-first g c = λ here. (promised g c here).first
 
 pub returns-in-Ok-clause-full : goal.returns-in-Ok-clause-full
 returns-in-Ok-clause-full g c = λ here. (promised g c here).full
@@ -86,6 +95,12 @@ pub returns-in-Err-clause-blamed : goal.returns-in-Err-clause-blamed
 returns-in-Err-clause-blamed g c = λ here.
     blames_sources g.R.Runner.next (g.S.Site.world c.args.site) (g.S.Site.world c.prepared.new.site) c.prepared.new.log.ran c.in-Err.stop c.in-Err.ensures.stops (c.in-Err.ensures.blame here.tells g.R.Runner.next here.kept)
 
+pub returns-in-Err-clause-bads : goal.returns-in-Err-clause-bads
+returns-in-Err-clause-bads g c = λ here. none_bad g.R.Runner.next (g.S.Site.world c.args.site) c.prepared.new.log (c.prepared.ensures.none.ended ∙ c.new-log.ensures.ended)
+
+pub returns-in-Err-clause-first : goal.returns-in-Err-clause-first
+returns-in-Err-clause-first g c = λ here. blames_before (g.S.Site.world c.args.site) c.prepared.new.log c.in-Err.stop c.in-Err.ensures.stops
+
 pub returns-in-Err-clause-full : goal.returns-in-Err-clause-full
 returns-in-Err-clause-full g c = λ here.
     full_before g.S.Site c.args.site c.prepared.new.site c.prepared.new.log.ran c.in-Err.stop (c.prepared.ensures.none.ran ∙ c.new-log.ensures.ran) (c.in-Err.ensures.full here.tells g.R.Runner.next here.kept)
@@ -116,7 +131,7 @@ returns-in-Err-clause-ran g c = λ tells. before_ran c.prepared.new.log.ran (map
 pub returns-in-Err-clause-logged : goal.returns-in-Err-clause-logged
 returns-in-Err-clause-logged g c =
     let none = c.prepared.ensures.none in
-    before_logged (length c.args.crew.items) c.requires.crew.0 c.args.asked.keep_going c.prepared.new.log c.in-Err.stop c.in-Err.ensures.stops (record { ran = none.ran ∙ c.new-log.ensures.ran; ended = none.ended ∙ c.new-log.ensures.ended }) c.in-Err.ensures.logged
+    before_logged (length c.args.crew.items) c.requires.crew.0 c.args.asked.keep_going c.prepared.new.log c.in-Err.stop c.in-Err.ensures.stops (record { ran = none.ran ∙ c.new-log.ensures.ran; ended = none.ended ∙ c.new-log.ensures.ended; steps = none.steps ∙ c.new-log.ensures.steps }) c.in-Err.ensures.logged
 
 pub returns-in-Ok-clause-spares : goal.returns-in-Ok-clause-spares
 returns-in-Ok-clause-spares g c = λ tells.
@@ -178,3 +193,13 @@ returns-in-Err-clause-why g c = λ tells some asked. none_explained g.S.Site c.a
 
 pub returns-in-Err-clause-because : goal.returns-in-Err-clause-because
 returns-in-Err-clause-because g c = none_counted c.args.asked.explain c.prepared.new.log c.new.result (c.prepared.ensures.none.ended ∙ c.new-log.ensures.ended) c.new.ensures
+
+-- ---- which Tupfiles it read, and which files it removed
+
+pub returns-in-Ok-clause-did : goal.returns-in-Ok-clause-did
+returns-in-Ok-clause-did g c = λ tells some.
+    let done = c.run_flagged.result in
+    running_did (g.S.Site.world c.args.site) c.prepared.new.log done.log (c.in-Ok.ensures.did tells some.0 some.1) c.run_flagged.ensures.only_runs done.stopped c.run_flagged.ensures.stops
+
+pub returns-in-Err-clause-did : goal.returns-in-Err-clause-did
+returns-in-Err-clause-did g c = λ tells some. c.in-Err.ensures.did tells some.0 some.1
