@@ -1,9 +1,10 @@
 #!/bin/sh
 # Each allocation of an update is refused in turn: the update is done all the same, or it says so and ends with 12, or with 7 where
 # it was the system that found no memory. No source changes, and the next update is done and leaves just the files of a clean
-# build. Two updates: the first of a project of three folders, and one after an edit of its header. Words: the program, which
-# allocation is the first (none: 1), and the step from one to the next (none: 20; 1 takes some minutes). It ends with 1
-# where something else came, and says so. It needs a C compiler, and is no part of the gate.
+# build. Two updates: the first of a project of three folders, and one after an edit of its header. And an update by a program that
+# isn't there runs nothing. Words: the program, which allocation is the first (none: 1), and the step from one to the next (none:
+# 20; 1 takes some minutes). It ends with 1 where something else came, and says so. It needs a C compiler, and is no part of
+# the gate.
 set -u
 tup=$(realpath "$1")
 first=${2:-1}
@@ -15,6 +16,7 @@ trap 'exit 1' INT TERM
 failures=0
 all=0
 refused=0
+unsaid=0
 
 if ! cc -shared -fPIC -O1 -o "$work/no-memory.so" "$here/no-memory.c" 2> /dev/null; then
     echo "passed over: there is no C compiler"
@@ -53,6 +55,7 @@ try() {
         case "$exit $(tail -1 "$work/told") $(cat "$work/said")" in
             '0 done: '*) ;;
             '12 fault: no memory '*) refused=$((refused + 1)) ;;
+            '12  ') refused=$((refused + 1)) unsaid=$((unsaid + 1)) ;;
             '7 fault: the file tree or the store failed '*'Cannot allocate memory'* | '7 fault: the file tree or the store failed '*': out of memory') refused=$((refused + 1)) ;;
             *) wrong "exit $exit: $(tail -1 "$work/told") $(cat "$work/said")" ;;
         esac
@@ -83,9 +86,24 @@ try 'the first update'
 cd "$work/project" && "$tup" upd > /dev/null && printf '%s\n' '#define B' > inc/a.h || exit 1
 try 'an edited header'
 
+# Each of the first hundred allocations of an update by a program that isn't there, in a project whose commands are built-in ones.
+rm -rf "$work/project" && mkdir "$work/project" && cd "$work/project" || exit 1
+echo hi > a
+echo ': a |> cp a b |> b' > Tupfile
+"$tup" init > /dev/null || exit 1
+for number in $(seq 100); do
+    what="a program that isn't there, allocation $number"
+    REFUSED=$number TOLD="$work/was_refused" LD_PRELOAD="$work/no-memory.so" "$tup" upd -j 1 --proc ./none > "$work/told" 2> "$work/said"
+    exit=$?
+    all=$((all + 1))
+    case $exit in 7 | 8 | 12) ;; *) wrong "exit $exit: $(tail -1 "$work/told")" ;; esac
+    [ ! -e b ] || wrong 'its command was run'
+    rm -f b
+done
+
 if [ "$failures" -gt 0 ]; then
     echo "$failures of $all updates went wrong"
     exit 1
 fi
 [ "$all" -gt 0 ] || echo 'passed over: the program asks another for its memory'
-echo "$all allocations were refused, $refused updates ended by that; no source changed, and each next update was done"
+echo "$all allocations were refused, $refused updates ended by that, $unsaid without a word; no source changed, and each next update was done"

@@ -36,7 +36,7 @@ use tup_path::Text;
 use tup_progress::{Manner, Progress, Started};
 use tup_runner::Runner;
 use tup_tell::LineReporter;
-use tup_top::{Order, Status, Word, order_of, tup};
+use tup_top::{Order, OrderFault, Status, Word, order_of, tup};
 use words::words;
 
 const HELP: &str = "\
@@ -70,7 +70,7 @@ Exit numbers: 0 done, 1 a command's fault, 2 usage, 3 no project here, or one al
 const JOBS: u32 = 4;
 
 /// The version. The tests, the manual and the Makefile read it here.
-const VERSION: &str = "0.6";
+const VERSION: &str = "0.7";
 
 fn main(rt: HostRuntime) -> ExitCode {
     streams::fill(rt);
@@ -154,6 +154,8 @@ fn obey<W: Threads + Wait + Sync>(rt: HostRuntime, crews: &W, alloc: Global, wor
         }
         Ok(Order::Todo) => todo(rt, crews, alloc, words),
         Ok(Order::Verify) => verify(rt, crews, alloc, words),
+        // An update whose words weren't understood for want of memory is none.
+        Err(OrderFault::Memory) => told(&rt, Status::Memory),
         _ => without_project(rt, crews, alloc, words),
     }
 }
