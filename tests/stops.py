@@ -261,8 +261,7 @@ def killed(history):
         least, most = FAILED[calls], FAILED[calls] + many
     inject = '%s:%s:when=%d' % (calls, way, lot.randint(least, most))
     ended = history.update(['strace', '-f', '-qq', '-o', '/dev/null', '-e', 'trace=' + calls, '-e', 'inject=' + inject])
-    # a sync behind one that failed says only that, and another runner may make it
-    is_told = '(os error 5)' in ended.stderr or 'an earlier write was lost' in ended.stderr
+    is_told = '(os error 5)' in ended.stderr
     if ended.returncode not in (0, -9, 137, 9) and not (ended.returncode == 7 and is_told):
         history.wrong.append('%s: exit %d: %s%s' % (inject, ended.returncode, ended.stdout[-300:], ended.stderr))
     return ended.returncode != 0
