@@ -20,7 +20,7 @@ help:
 	@echo 'make above      lists the crates that a change of one reaches: CRATE=tup_stamp'
 	@echo 'make promises   prints what each public function promises, crate by crate; CRATE=tup_stamp of that crate alone'
 	@echo 'make definitions OF=IsKept  prints the definitions of that name with their texts, or all of a crate; or which calls have a clause of that name'
-	@echo 'make reach      lists the definitions that the contract of tup comes down to; OF=history those of histories'
+	@echo 'make reach      lists the definitions that the contract of tup comes down to; OF=history those of histories, OF=large of tup large'
 	@echo 'make books      compares the documents with the code: clauses, definitions, limits, files, links'
 	@echo 'make refusals   lists the refusals of each public call with the clauses that say when they come; SHOW=open those that no clause names'
 	@echo 'make rows       tries one file of rows: FILE=crates/tup_store_rows/data/kept.rows'

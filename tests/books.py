@@ -18,6 +18,7 @@ import subprocess
 import sys
 
 from promises import TOP, crates, definitions, functions, read
+from reach import THEOREMS as REACHED
 from reach import reached
 from refusals import calls, unnamed
 
@@ -100,7 +101,7 @@ def theorem():
         for name in sorted(has ^ told):
             check(False, 'docs/PROOF.md', f'clause {name} of {function} is ' + ('missing' if name in has else 'not in the code'))
     # What the built-in commands mean is reached by the runner's `next`, and the exit number by `main`.
-    comes_to = {one[2] for function in ('tup', 'history') for one in reached(function)} | {'mini_next', 'does', 'exit_of'}
+    comes_to = {one[2] for function in REACHED for one in reached(function)} | {'mini_next', 'does', 'exit_of'}
     for name, where, *_ in (row for row in table(section('docs/PROOF.md', '## What you have to believe')) if len(row) == 3):
         for one in quoted(name):
             check(any(one in defined(*place) for place in places(where)), 'docs/PROOF.md', f'{one} is not in {where}')

@@ -177,6 +177,12 @@ row "an unknown word" 2 'fault: usage, word 1;' make
 row "a word that isn't UTF-8" 2 'fault: usage, word 2;' upd "$(printf 'n\377')"
 row "the demo" 0 "$done_copy" demo
 gone "nothing was done" b
+row "a large project of one folder" 0 'done: 2 read, 12 run, 0 removed;done: 0 read, 0 run, 0 removed;done: 0 read, 3 run, 0 removed;done: 0 read, 3 run, 0 removed;done: 1 read, 3 run, 0 removed;done: 1 read, 2 run, 1 removed;same;' large 1
+row "one of three folders" 0 'done: 4 read, 34 run, 0 removed;done: 0 read, 0 run, 0 removed;done: 0 read, 7 run, 0 removed;done: 0 read, 3 run, 0 removed;done: 1 read, 3 run, 0 removed;done: 1 read, 2 run, 1 removed;same;' large 3
+gone "nothing was done" b
+for words in large 'large 0' 'large 1001' 'large 03' 'large +3' 'large x' 'large 10000' 'large 3a' 'large -k'; do row "the words '$words'" 2 'fault: usage, word 2;' $words; done
+row "a word after the number" 2 'fault: usage, word 3;' large 3 3
+row "a large project is no option" 2 'fault: usage, word 2;' upd large 3
 same "help" "$("$tup" --help > /dev/null; echo $?)" 0
 same "version" "$("$tup" --version > /dev/null; echo $?)" 0
 

@@ -1,4 +1,4 @@
-"""Lists the definitions that a theorem reaches: `make reach`, or `make reach OF=history`.
+"""Lists the definitions that a theorem reaches: `make reach`, or `make reach OF=history`, or `OF=large`.
 
 From the contract of a function it follows each name to its definition in specs/, and from there on, by the `use` lines of the
 files. What std defines is left out, and so are types that the code declares, and the ghost members of traits.
@@ -9,7 +9,7 @@ import sys
 
 from promises import TOP, crates, defined, read
 
-THEOREMS = {'tup': ('tup_top', 'call.rt'), 'history': ('tup_history', 'life.rt')}
+THEOREMS = {'tup': ('tup_top', 'call.rt'), 'history': ('tup_history', 'life.rt'), 'large': ('tup_large', 'show.rt')}
 USE = re.compile(r'^(?:ghost |pub )*use Rattle\.(tup\w*)\.specs\.(\w+)(?:\.\{([^}]*)\})?(?: as (\w+))?;?$', re.M)
 WORD = re.compile(r"(?:[^\W\d]\w*(?:-\w+)*\.)?[^\W\d]\w*|[>=&+]{1,3}")
 
@@ -84,7 +84,7 @@ def contract(text, function):
 
 
 def reached(function):
-    """The definitions that the contract of `tup` or `history` reaches, each as its crate, file and name."""
+    """The definitions that the contract of a theorem reaches, each as its crate, file and name."""
     crate, file = THEOREMS[function]
     text = read('crates', crate, 'src', file)
     book = Book()
@@ -94,7 +94,7 @@ def reached(function):
 def main(words):
     function = words[0] if words else 'tup'
     if function not in THEOREMS:
-        print('make reach OF=tup, or OF=history', file=sys.stderr)
+        print('make reach OF=tup, or ' + ', '.join(f'OF={one}' for one in THEOREMS if one != 'tup'), file=sys.stderr)
         return 1
     found = reached(function)
     for crate in reversed(crates()):

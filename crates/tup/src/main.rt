@@ -1,8 +1,8 @@
 //! `tup`, the program: words in, lines out, an exit number.
 //!
-//! All that it does is `tup_top::tup` over the real files below the working folder. What stands here reads the
-//! words and writes to standard output, and to standard error what the system said of a call that failed; it is
-//! tested, and proved to be safe, but it makes no promise of its own.
+//! All that it does is `tup_top::tup` over the real files below the working folder, and `tup_large::large` over
+//! files in memory. What stands here reads the words and writes to standard output, and to standard error what the
+//! system said of a call that failed; it is tested, and proved to be safe, but it makes no promise of its own.
 #![tactic(auto)]
 
 ghost use Rattle.tup_top.specs.Crew.{IsCrew};
@@ -51,6 +51,7 @@ tup makes the files that the Tupfiles of a project ask for. It may be called in 
   tup todo        list what an update would remove and run, and change no file
   tup verify      compare the files with a clean build, and touch none
   tup demo        show an update of a small project in memory
+  tup large N     show what updates of a project of N folders in memory do, 1 to 1000
   tup --proc P    update, each command run through the program P; also tup upd --proc P
   tup -k          update, and go on after a bad command with what doesn't need it; also tup upd -k
   tup -j N        update, at most N commands at a time, 1 to 16; without it 4; also tup upd -j N, -jN
@@ -94,7 +95,21 @@ fn answer<W: Threads + Wait + Sync>(
         [word, options @ ..] if word.0.as_str() == "init" => {
             init(rt, crews, alloc, &words[..1], options)
         }
+        [word, more @ ..] if word.0.as_str() == "large" => {
+            show(rt, tup_large::large(crews, alloc, more))
+        }
         _ => obey(rt, crews, alloc, words),
+    }
+}
+
+/// Prints what is shown of a large project, and gives the exit number. A failure of the output is
+/// told where all else went well.
+fn show(rt: HostRuntime, large: tup_large::Shown) -> u8 {
+    let tup_large::Shown { lines, status } = large;
+    let printed = shown(print!(rt; "{lines}"));
+    match status.exit() {
+        0 => printed,
+        fault => fault,
     }
 }
 

@@ -1,0 +1,4 @@
+pub mod Number
+pub mod Project
+pub mod Turns
+pub mod Shown
