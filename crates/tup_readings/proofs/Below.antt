@@ -1,6 +1,6 @@
 -- Paths by their folder and their name.
-use Rattle.std.proofs.Common.{◌≡◌, ◌⊎◌, inl, inr, ℕ, Bool, true, false, cond, ◌&&◌, ◌||◌, List, [], ◌∷◌, ◌++◌, length, Some, None, refl, sym, ap, ◌∙◌, arith, length-append}
-use Rattle.std.specs.Prelude.{slice_get, bytes_eq, option_map}
+use Rattle.std.proofs.Common.{◌≡◌, ◌⊎◌, inl, inr, ℕ, Bool, true, false, cond, ◌&&◌, ◌||◌, List, [], ◌∷◌, ◌++◌, length, Option, Some, None, refl, sym, ap, ◌∙◌, arith, length-append}
+use Rattle.std.specs.Prelude.{slice_get, bytes_eq}
 use Rattle.std.specs.BTreeSet.{insert_key}
 use Rattle.std.specs.List.{cons_option}
 use Rattle.std.specs.Result.{result_ok}
@@ -117,11 +117,12 @@ indexed paths dir = by (has_below paths dir) refl
     by true e = refl
     by false e = ap in_order (sym (none_in_it dir paths e))
 
--- what the index says of a folder once it has one file more: first the folders above the file are there, then its folder has its name
+-- what the index says of a folder once it has one file more: first the folders above that of the file are there, then its folder
+-- has its name
 pub with_file : (paths : List Names) (dir up : Names) (name : List ℕ) →
     cond (same_path dir up)
-    (option_map (λ names. insert_key by_bytes names name) (cond (is_below dir (up ++ name ∷ [])) (Some (or_none (folder_of paths dir))) (folder_of paths dir)))
-    (cond (is_below dir (up ++ name ∷ [])) (Some (or_none (folder_of paths dir))) (folder_of paths dir))
+    (Some (insert_key by_bytes (or_none (cond (is_below dir up) (Some (or_none (folder_of paths dir))) (folder_of paths dir))) name))
+    (cond (is_below dir up) (Some (or_none (folder_of paths dir))) (folder_of paths dir))
     ≡ folder_of (paths ++ (up ++ name ∷ []) ∷ []) dir
 with_file paths dir up name = by (same_path dir up) refl
   where
@@ -131,21 +132,26 @@ with_file paths dir up name = by (same_path dir up) refl
     any : has_below (paths ++ path ∷ []) dir ≡ (has_below paths dir || is_below dir path)
     any = list_any-append (is_below dir) paths (path ∷ []) ∙ ap (λ b. has_below paths dir || b) (or_false (is_below dir path))
 
+    there : (b : Bool) (names : Option (List (List ℕ))) → or_none (cond b (Some (or_none names)) names) ≡ or_none names
+    there true names = refl
+    there false names = refl
+
     by : (s : Bool) → same_path dir up ≡ s → cond s
-        (option_map (λ names. insert_key by_bytes names name) (cond (is_below dir path) (Some (or_none (folder_of paths dir))) (folder_of paths dir)))
-        (cond (is_below dir path) (Some (or_none (folder_of paths dir))) (folder_of paths dir))
+        (Some (insert_key by_bytes (or_none (cond (is_below dir up) (Some (or_none (folder_of paths dir))) (folder_of paths dir))) name))
+        (cond (is_below dir up) (Some (or_none (folder_of paths dir))) (folder_of paths dir))
         ≡ folder_of (paths ++ path ∷ []) dir
     by true s =
         let below : is_below dir path ≡ true = below_named dir up name ∙ ap (λ b. b || is_below dir up) s in
         let is : name_in dir path ≡ Some name = name_in_named dir up name ∙ ap (λ b. cond b (Some name) None) s in
         let all : has_below (paths ++ path ∷ []) dir ≡ true = any ∙ or_right (has_below paths dir) (is_below dir path) below in
-        ap (λ b. option_map (λ names. insert_key by_bytes names name) (cond b (Some (or_none (folder_of paths dir))) (folder_of paths dir))) below
-        ∙ ap (λ l. Some (insert_key by_bytes l name)) (indexed paths dir)
+        ap (λ l. Some (insert_key by_bytes l name)) (there (is_below dir up) (folder_of paths dir) ∙ indexed paths dir)
         ∙ ap Some (sym (names_push paths dir path name is))
         ∙ ap (λ b. cond b (Some (names_in_folder (paths ++ path ∷ []) dir)) None) (sym all)
     by false s =
         let is : name_in dir path ≡ None = name_in_named dir up name ∙ ap (λ b. cond b (Some name) None) s in
-        at (is_below dir path) refl (names_stay paths dir path is)
+        let same : is_below dir path ≡ is_below dir up = below_named dir up name ∙ ap (λ b. b || is_below dir up) s in
+        ap (λ b. cond b (Some (or_none (folder_of paths dir))) (folder_of paths dir)) (sym same)
+        ∙ at (is_below dir path) refl (names_stay paths dir path is)
       where
         at : (b : Bool) → is_below dir path ≡ b → names_in_folder (paths ++ path ∷ []) dir ≡ names_in_folder paths dir
             → cond b (Some (or_none (folder_of paths dir))) (folder_of paths dir) ≡ folder_of (paths ++ path ∷ []) dir

@@ -21,7 +21,7 @@ use Rattle.tup_path.specs.declared.fault.PathFault.TheVariants as path_fault
 use Rattle.tup_rule_line.specs.Glob.{in_order}
 use Rattle.tup_readings.specs.Sources.{is_source, tupfile, is_below, has_below, names_in_folder, folder_of}
 use Rattle.tup_readings.specs.Index.{AreTupfiles, FolderMap, names_of, AreFolders, AddsFile, or_none, AddsFolders, AddsName}
-use Rattle.tup_readings.proofs.Below.{above_named, nothing_below, below_named, lasts, none_in_it, with_file, with_top}
+use Rattle.tup_readings.proofs.Below.{above_named, nothing_below, below_named, lasts, none_in_it, or_false, with_file, with_top}
 
 -- ---- a path as its folder and its name
 
@@ -134,6 +134,14 @@ no_tupfile before path dir other name is apart = by (same_path (tupfile other) p
         let wrong : true ≡ false = sym ((same_bytes-decides name (codes "Tupfile")).1 (sym ends)) ∙ apart in
         cc
 
+-- the top isn't one
+pub top_no_tupfile : (before : Bool) (path other : Names) → path ≡ [] → before ≡ (before || same_path (tupfile other) path)
+top_no_tupfile before path other top = sym (or_false before) ∙ ap (λ b. before || b) (sym (ap (same_path (tupfile other)) top ∙ apart other))
+  where
+    apart : (dir : Names) → same_path (tupfile dir) [] ≡ false
+    apart [] = refl
+    apart (name ∷ dir) = refl
+
 -- the top lies in no folder
 pub nothing_added : (path dir : Names) (more before : Option (List (List ℕ))) → path ≡ [] → before ≡ cond (is_below dir path) more before
 nothing_added path dir more before top = sym (ap (λ p. cond (is_below dir p) more before) top ∙ ap (λ b. cond b more before) (nothing_below dir))
@@ -182,47 +190,30 @@ folder_there path up dir name old mid is above there =
 
 -- ---- one name more
 
-abbrev with_name : List ℕ → Option (List (List ℕ)) → Option (List (List ℕ))
-with_name name found = option_map (λ names. insert_key by_bytes names name) found
-
-pub name_added : (dir other : Names) (name : List ℕ) (old new : Option (BTreeSet (List ℕ))) (was is : BTreeSet (List ℕ)) → new ≡ cond (eq_by_cmp by_names dir other) (Some is) old → (other ≡ dir → Some was ≡ old)
-    → is.keys ≡ insert_key by_bytes was.keys name
-    → option_map (λ (set : BTreeSet (List ℕ)). set.keys) new
-    ≡ cond (same_path other dir) (with_name name (option_map (λ (set : BTreeSet (List ℕ)). set.keys) old)) (option_map (λ (set : BTreeSet (List ℕ)). set.keys) old)
-name_added dir other name old new was is changed there keys =
-    ap (option_map (λ (set : BTreeSet (List ℕ)). set.keys)) (changed ∙ ap (λ b. cond b (Some is) old) test) ∙ by (same_path other dir) refl
+pub name_added : (dir other : Names) (name : List ℕ) (old new : Option (BTreeSet (List ℕ))) (set : BTreeSet (List ℕ)) → new ≡ cond (eq_by_cmp by_names dir other) (Some set) old
+    → (other ≡ dir → set.keys ≡ insert_key by_bytes (or_none (option_map (λ (s : BTreeSet (List ℕ)). s.keys) old)) name)
+    → option_map (λ (s : BTreeSet (List ℕ)). s.keys) new
+    ≡ cond (same_path other dir) (Some (insert_key by_bytes (or_none (option_map (λ (s : BTreeSet (List ℕ)). s.keys) old)) name)) (option_map (λ (s : BTreeSet (List ℕ)). s.keys) old)
+name_added dir other name old new set changed keys =
+    ap (option_map (λ (s : BTreeSet (List ℕ)). s.keys)) (changed ∙ ap (λ b. cond b (Some set) old) test) ∙ by (same_path other dir) refl
   where
     test : eq_by_cmp by_names dir other ≡ same_path other dir
     test = sym (same_path-by_names dir other) ∙ both_ways (same_path dir other) (same_path other dir)
         (λ e. (same_path-decides other dir).1 (sym ((same_path-decides dir other).0 e))) (λ e. (same_path-decides dir other).1 (sym ((same_path-decides other dir).0 e)))
 
-    by : (b : Bool) → same_path other dir ≡ b → option_map (λ (set : BTreeSet (List ℕ)). set.keys) (cond b (Some is) old)
-        ≡ cond b (with_name name (option_map (λ (set : BTreeSet (List ℕ)). set.keys) old)) (option_map (λ (set : BTreeSet (List ℕ)). set.keys) old)
+    by : (b : Bool) → same_path other dir ≡ b → option_map (λ (s : BTreeSet (List ℕ)). s.keys) (cond b (Some set) old)
+        ≡ cond b (Some (insert_key by_bytes (or_none (option_map (λ (s : BTreeSet (List ℕ)). s.keys) old)) name)) (option_map (λ (s : BTreeSet (List ℕ)). s.keys) old)
     by false e = refl
-    by true e = ap (λ l. Some l) keys ∙ ap (λ (found : Option (BTreeSet (List ℕ))). with_name name (option_map (λ (set : BTreeSet (List ℕ)). set.keys) found)) (there ((same_path-decides other dir).0 e))
-
--- a folder that isn't there gets none
-pub no_name : (dir other : Names) (name : List ℕ) (old : Option (BTreeSet (List ℕ))) → (other ≡ dir → None ≡ old)
-    → option_map (λ (set : BTreeSet (List ℕ)). set.keys) old
-    ≡ cond (same_path other dir) (with_name name (option_map (λ (set : BTreeSet (List ℕ)). set.keys) old)) (option_map (λ (set : BTreeSet (List ℕ)). set.keys) old)
-no_name dir other name old none = by (same_path other dir) refl
-  where
-    by : (b : Bool) → same_path other dir ≡ b → option_map (λ (set : BTreeSet (List ℕ)). set.keys) old
-        ≡ cond b (with_name name (option_map (λ (set : BTreeSet (List ℕ)). set.keys) old)) (option_map (λ (set : BTreeSet (List ℕ)). set.keys) old)
-    by false e = refl
-    by true e =
-        let is : old ≡ None = sym (none ((same_path-decides other dir).0 e)) in
-        ap (option_map (λ (set : BTreeSet (List ℕ)). set.keys)) is ∙ sym (ap (λ (found : Option (BTreeSet (List ℕ))). with_name name (option_map (λ (set : BTreeSet (List ℕ)). set.keys) found)) is)
+    by true e = ap Some (keys ((same_path-decides other dir).0 e))
 
 -- ---- one file more
 
-pub file_added : (path up : Names) (name : List ℕ) (old mid new : FolderMap) → path ≡ up ++ name ∷ [] → AddsFolders path old mid → AddsName up name mid new → AddsFile path old new
+pub file_added : (path up : Names) (name : List ℕ) (old mid new : FolderMap) → path ≡ up ++ name ∷ [] → AddsFolders up old mid → AddsName up name mid new → AddsFile path old new
 file_added path up name old mid new is folders named paths are dir =
     named dir
-    ∙ ap (λ (found : Option (List (List ℕ))). cond (same_path dir up) (with_name name found) found) (folders dir ∙ ap (λ (found : Option (List (List ℕ))). cond (is_below dir path) (Some (or_none found)) found) (are dir))
-    ∙ ap (λ p. cond (same_path dir up) (with_name name (cond (is_below dir p) (Some (or_none (folder_of paths dir))) (folder_of paths dir))) (cond (is_below dir p) (Some (or_none (folder_of paths dir))) (folder_of paths dir))) is
+    ∙ ap (λ (found : Option (List (List ℕ))). cond (same_path dir up) (Some (insert_key by_bytes (or_none found) name)) found)
+    (folders dir ∙ ap (λ (found : Option (List (List ℕ))). cond (is_below dir up) (Some (or_none found)) found) (are dir))
     ∙ with_file paths dir up name ∙ ap (λ p. folder_of (paths ++ p ∷ []) dir) (sym is)
 
-pub top_added : (path : Names) (old new : FolderMap) → path ≡ [] → AddsFolders path old new → AddsFile path old new
-top_added path old new top folders paths are dir =
-    folders dir ∙ sym (nothing_added path dir (Some (or_none (names_of old dir))) (names_of old dir) top) ∙ are dir ∙ sym (with_top paths dir) ∙ ap (λ p. folder_of (paths ++ p ∷ []) dir) (sym top)
+pub top_added : (path : Names) (folders : FolderMap) → path ≡ [] → AddsFile path folders folders
+top_added path folders top paths are dir = are dir ∙ sym (with_top paths dir) ∙ ap (λ p. folder_of (paths ++ p ∷ []) dir) (sym top)

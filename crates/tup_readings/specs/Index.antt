@@ -45,7 +45,7 @@ or_none None = []
 abbrev pub AddsFolders : Names → FolderMap → FolderMap → Type 0
 AddsFolders path old new = (dir : Names) → names_of new dir ≡ (if is_below dir path then Some (or_none (names_of old dir)) else names_of old dir)
 
--- a map that has one name more in a folder
+-- a map that has one name more in a folder, which is there then
 abbrev pub AddsName : Names → List ℕ → FolderMap → FolderMap → Type 0
 AddsName dir name old new = (other : Names)
-    → names_of new other ≡ (if same_path other dir then option_map (λ names. insert_key by_bytes names name) (names_of old other) else names_of old other)
+    → names_of new other ≡ (if same_path other dir then Some (insert_key by_bytes (or_none (names_of old other)) name) else names_of old other)

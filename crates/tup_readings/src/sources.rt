@@ -1,6 +1,7 @@
 //! The sources of a project, by what a reading asks of them.
-ghost use Rattle.std.specs.Prelude.{◌≡◌, IsTrue, IfOk, OnOk};
+ghost use Rattle.std.specs.Prelude.{◌≡◌, ◌++◌, ◌∷◌, [], None, IsTrue, IfOk, OnOk};
 ghost use Rattle.std.specs.Option.{option_copied};
+ghost use Rattle.std.specs.BTreeMap.{get};
 ghost use Rattle.std.specs.BTreeSet.{contains};
 ghost use Rattle.std.specs.FinMap as finite;
 ghost use Rattle.std.specs.Map.{keys_of};
@@ -55,8 +56,7 @@ impl<'f> Sources<'f> {
         ensures { IfOk result (λ sources. sources ≡ finite.from_sorted files.now) }
     {
         let files = files.as_slice();
-        let folders = folders(alloc, files)?;
-        let tupfiles = tupfiles(alloc, files)?;
+        let (folders, tupfiles) = index(alloc, files)?;
         Ok(Sources {
             files,
             folders,
@@ -108,49 +108,35 @@ impl<'f> Sources<'f> {
     }
 }
 
-/// The folders above files, with the names of the files in each.
-fn folders(alloc: Global, files: &[(Path, Bytes)]) -> Result<Folders, AllocError>
-    ensures { IfOk result (AreFolders (keys_of files.now)) }
+/// The folders above files, with the names of the files in each, and those in which a Tupfile is among them.
+fn index(alloc: Global, files: &[(Path, Bytes)]) -> Result<(Folders, BTreeSet<Path>), AllocError>
+    ensures folders { IfOk result (λ index. AreFolders (keys_of files.now) index.0) }
+    ensures tupfiles { IfOk result (λ index. AreTupfiles (keys_of files.now) index.1) }
 {
     let mut folders = BTreeMap::new(alloc);
+    let mut tupfiles = BTreeSet::new(alloc);
     for (path, _) in files {
-        add_file(alloc, &mut folders, path)?;
+        add_file(alloc, &mut folders, &mut tupfiles, path)?;
     }
-    Ok(folders)
+    Ok((folders, tupfiles))
 }
 
-/// The folders in which a Tupfile is among the files.
-fn tupfiles(alloc: Global, files: &[(Path, Bytes)]) -> Result<BTreeSet<Path>, AllocError>
-    ensures { IfOk result (AreTupfiles (keys_of files.now)) }
+/// Adds a file to the folders above it, and its own folder to those that have a Tupfile, if it is one.
+fn add_file(
+    alloc: Global,
+    folders: &mut Folders,
+    tupfiles: &mut BTreeSet<Path>,
+    path: &Path,
+) -> Result<(), AllocError>
+    ensures folders { OnOk result (AddsFile path.now folders.old folders.new) }
+    ensures tupfiles { OnOk result (AddsTupfile path.now tupfiles.old tupfiles.new) }
 {
-    let mut dirs = BTreeSet::new(alloc);
-    for (path, _) in files {
-        add_tupfile(alloc, &mut dirs, path)?;
-    }
-    Ok(dirs)
-}
-
-/// Adds the folder of a file, if it is a Tupfile.
-fn add_tupfile(alloc: Global, dirs: &mut BTreeSet<Path>, path: &Path) -> Result<(), AllocError>
-    ensures { OnOk result (AddsTupfile path.now dirs.old dirs.new) }
-{
-    if let Some((dir, name)) = parted(alloc, path)? {
-        if name.as_str() == "Tupfile" {
-            dirs.insert(dir)?;
-        }
-    }
-    Ok(())
-}
-
-/// Adds a file to the folders above it.
-fn add_file(alloc: Global, folders: &mut Folders, path: &Path) -> Result<(), AllocError>
-    ensures { OnOk result (AddsFile path.now folders.old folders.new) }
-{
-    add_folders(alloc, folders, path)?;
-    match parted(alloc, path)? {
-        Some((dir, name)) => add_name(folders, &dir, name),
-        None => Ok(()),
-    }
+    let Some((dir, name)) = parted(alloc, path)? else {
+        return Ok(());
+    };
+    add_folders(alloc, folders, &dir)?;
+    add_tupfile(tupfiles, &dir, &name)?;
+    add_name(alloc, folders, dir, name)
 }
 
 /// Adds all folders above a path that aren't there.
@@ -167,12 +153,35 @@ fn add_folders(alloc: Global, folders: &mut Folders, path: &Path) -> Result<(), 
     Ok(())
 }
 
-/// Adds a name to those of a folder, if it is there.
-fn add_name(folders: &mut Folders, dir: &Path, name: Text) -> Result<(), AllocError>
-    ensures { OnOk result (AddsName dir.now name folders.old folders.new) }
+/// Adds a folder, if the file of this name in it is a Tupfile.
+fn add_tupfile(dirs: &mut BTreeSet<Path>, dir: &Path, name: &Text) -> Result<(), AllocError>
+    ensures { OnOk result ((path : Names) → path ≡ dir.now ++ name.now ∷ []
+        → AddsTupfile path dirs.old dirs.new) }
 {
-    if let Some(names) = folders.get_mut(dir) {
-        names.insert(name)?;
+    if name.as_str() == "Tupfile" {
+        dirs.insert(dir.clone()?)?;
     }
+    Ok(())
+}
+
+/// Adds a name to those of a folder, which is added if it isn't there.
+fn add_name(alloc: Global, folders: &mut Folders, dir: Path, name: Text) -> Result<(), AllocError>
+    ensures { OnOk result (AddsName dir name folders.old folders.new) }
+{
+    let Some(names) = folders.get_mut(&dir) else {
+        return begin(alloc, folders, dir, name);
+    };
+    names.insert(name)?;
+    Ok(())
+}
+
+/// Adds a folder that isn't there, with one name.
+fn begin(alloc: Global, folders: &mut Folders, dir: Path, name: Text) -> Result<(), AllocError>
+    requires { get by_names folders.old dir ≡ None }
+    ensures { OnOk result (AddsName dir name folders.old folders.new) }
+{
+    let mut names = BTreeSet::new(alloc);
+    names.insert(name)?;
+    folders.insert(dir, names)?;
     Ok(())
 }

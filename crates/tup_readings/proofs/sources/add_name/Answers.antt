@@ -1,23 +1,21 @@
-use Rattle.std.proofs.Common.{◌≡◌, true, is_some, sym, ap, ◌∙◌}
+use Rattle.std.proofs.Common.{◌≡◌, ℕ, List, Option, true, is_some, sym, ap, ◌∙◌}
+use Rattle.std.specs.Prelude.{option_map}
 use Rattle.std.specs.BTreeMap.{get}
-use Rattle.tup_path.specs.Order.{by_names}
-use Rattle.tup_readings.specs.Index.{names_of}
-use Rattle.tup_readings.proofs.Indexed.{name_added, no_name}
+use Rattle.std.specs.BTreeSet.{BTreeSet, insert_key}
+use Rattle.tup_path.specs.Order.{by_bytes, by_names}
+use Rattle.tup_readings.specs.Index.{or_none}
+use Rattle.tup_readings.proofs.Indexed.{name_added}
 use Rattle.tup_readings.proofs.sources.add_name.Goals as goal
 
-pub returns-in_ok-insert : goal.returns-in_ok-insert
-returns-in_ok-insert c =
-    let dir = c.args.dir.now in
+pub returns : goal.returns
+returns c =
+    let dir = c.args.dir in
     let old = c.args.folders.now in
     let set = c.insert.new.self in
     let there : is_some (get by_names old dir) ≡ true = ap is_some (sym c.in-Some.ensures.value) in
-    λ other. name_added dir other c.args.name (get by_names old other) (get by_names (c.get_mut.follows.lender set) other) c.in-Some.names.now set
-    (((c.get_mut.follows.holds set).3 there).0 other) (λ same. c.in-Some.ensures.value ∙ ap (get by_names old) (sym same)) c.in_ok-insert.ensures.keys
-
-pub returns-in_default : goal.returns-in_default
-returns-in_default c =
-    let dir = c.args.dir.now in
-    let old = c.args.folders.now in
-    λ other.
-    ap (λ m. names_of m other) c.get_mut.follows.holds-at-none
-    ∙ no_name dir other c.args.name (get by_names old other) (λ is. c.in_default.ensures.value ∙ ap (get by_names old) (sym is))
+    λ other. name_added dir other c.args.name (get by_names old other) (get by_names (c.get_mut.follows.lender set) other) set
+    (((c.get_mut.follows.holds set).3 there).0 other)
+    (λ same.
+    c.in_ok-insert.ensures.keys
+    ∙ ap (λ (found : Option (BTreeSet (List ℕ))). insert_key by_bytes (or_none (option_map (λ (s : BTreeSet (List ℕ)). s.keys) found)) c.args.name)
+    (c.in-Some.ensures.value ∙ ap (get by_names old) (sym same)))

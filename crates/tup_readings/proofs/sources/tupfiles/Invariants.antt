@@ -1,7 +1,0 @@
-use Rattle.std.proofs.Common.{take}
-use Rattle.std.specs.Map.{keys_of}
-use Rattle.tup_readings.specs.Index.{AreTupfiles}
-use Rattle.tup_readings.proofs.sources.tupfiles.Given as goal
-
-abbrev pub invariant-loop-path : goal.invariant-loop-path
-invariant-loop-path l = AreTupfiles (keys_of (take l.path-index l.files)) l.dirs
