@@ -25,7 +25,7 @@ first_below : {X : Type 0} (k : List ℕ) (es : List (List ℕ × X)) → All (�
 first_below k [] all = tt
 first_below k (e ∷ es) all = (All-head (λ q. by_bytes k q ≡ Less) e.0 (keys_of es) all, first_below k es (All-tail (λ q. by_bytes k q ≡ Less) e.0 (keys_of es) all))
 
-ascends : {X : Type 0} (es : List (List ℕ × X)) → IsStrictlySortedBy by_bytes (keys_of es) → IsAscending es
+pub ascends : {X : Type 0} (es : List (List ℕ × X)) → IsStrictlySortedBy by_bytes (keys_of es) → IsAscending es
 ascends [] up = tt
 ascends (e ∷ es) up = (first_below e.0 es (All-after_first by_bytes e.0 (keys_of es) up), ascends es (sorted_tail by_bytes e.0 (keys_of es) up))
 
@@ -57,7 +57,7 @@ behind : (k q : List ℕ) (es : Slots) → k ≡ q → Below q es → Below k (s
 behind k q es same all = below_standing k es (subst (λ (x : List ℕ). Below x es) (sym same) all)
 
 -- ---- a slot that is filled, emptied, or removed
-filled : (es : Slots) (k : List ℕ) (v : Entry) → IsAscending es → standing (insert_entry by_bytes es k (Some v)) ≡ insert_entry by_bytes (standing es) k v
+pub filled : (es : Slots) (k : List ℕ) (v : Entry) → IsAscending es → standing (insert_entry by_bytes es k (Some v)) ≡ insert_entry by_bytes (standing es) k v
 filled [] k v up = refl
 filled ((q, None) ∷ es) k v up =
     (elim (by_bytes k q) as (λ o. by_bytes k q ≡ o → standing (match_ordering o ((k, Some v) ∷ (q, None) ∷ es) ((q, Some v) ∷ es) ((q, None) ∷ insert_entry by_bytes es k (Some v))) ≡ insert_entry by_bytes (standing es) k v) [
@@ -72,7 +72,7 @@ filled ((q, Some w) ∷ es) k v up =
       | Greater ↦ λ o. ap (λ (t : Standing). (q, w) ∷ t) (filled es k v up.1)
     ]) refl
 
-emptied : (es : Slots) (k : List ℕ) → IsAscending es → standing (insert_entry by_bytes es k None) ≡ remove_entry (is_at (by_bytes k)) (standing es)
+pub emptied : (es : Slots) (k : List ℕ) → IsAscending es → standing (insert_entry by_bytes es k None) ≡ remove_entry (is_at (by_bytes k)) (standing es)
 emptied [] k up = refl
 emptied ((q, None) ∷ es) k up =
     (elim (by_bytes k q) as (λ o. by_bytes k q ≡ o → standing (match_ordering o ((k, None) ∷ (q, None) ∷ es) ((q, None) ∷ es) ((q, None) ∷ insert_entry by_bytes es k None)) ≡ remove_entry (is_at (by_bytes k)) (standing es)) [
@@ -86,21 +86,6 @@ emptied ((q, Some w) ∷ es) k up =
       | Equal ↦ λ o. refl
       | Greater ↦ λ o. ap (λ (t : Standing). (q, w) ∷ t) (emptied es k up.1)
     ]) refl
-
-removed : (es : Slots) (k : List ℕ) → IsAscending es → standing (remove_entry (is_at (by_bytes k)) es) ≡ remove_entry (is_at (by_bytes k)) (standing es)
-removed [] k up = refl
-removed ((q, None) ∷ es) k up =
-    (elim (by_bytes k q) as (λ o. by_bytes k q ≡ o → standing (cond (is_eq o) es ((q, None) ∷ remove_entry (is_at (by_bytes k)) es)) ≡ remove_entry (is_at (by_bytes k)) (standing es)) [
-      | Less ↦ λ o. removed es k up.1
-      | Equal ↦ λ o. sym (front_delete (standing es) k (behind k q es (antisymmetric k q o) up.0))
-      | Greater ↦ λ o. removed es k up.1
-    ]) refl
-removed ((q, Some w) ∷ es) k up =
-    elim (by_bytes k q) as (λ o. standing (cond (is_eq o) es ((q, Some w) ∷ remove_entry (is_at (by_bytes k)) es)) ≡ cond (is_eq o) (standing es) ((q, w) ∷ remove_entry (is_at (by_bytes k)) (standing es))) [
-      | Less ↦ ap (λ (t : Standing). (q, w) ∷ t) (removed es k up.1)
-      | Equal ↦ refl
-      | Greater ↦ ap (λ (t : Standing). (q, w) ∷ t) (removed es k up.1)
-    ]
 
 -- ---- a key without a slot
 abbrev found : Option Entry → Option (Option Entry)
@@ -160,9 +145,6 @@ module _ (es new : Slots) (up : IsStrictlySortedBy by_bytes (keys_of es)) (k : L
 
   pub empty_slot : new ≡ insert_entry by_bytes es k None → standing new ≡ remove_entry (is_at (by_bytes k)) (standing es)
   empty_slot e = ap standing e ∙ emptied es k (ascends es up)
-
-  pub remove_slot : new ≡ remove_entry (is_at (by_bytes k)) es → standing new ≡ remove_entry (is_at (by_bytes k)) (standing es)
-  remove_slot e = ap standing e ∙ removed es k (ascends es up)
 
 -- ---- what is looked up
 module _ (es : Slots) (now : Standing) (up : IsStrictlySortedBy by_bytes (keys_of es)) (k : List ℕ) (seen : standing es ≡ now) where

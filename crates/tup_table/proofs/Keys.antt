@@ -12,7 +12,6 @@ use Rattle.tup_table.specs.Entries.{Standing, key_of, IsAscending, changed, comm
 use Rattle.tup_table.specs.Store.{commit}
 use Rattle.tup_table.specs.declared.change.Change.{Change}
 use Rattle.tup_table.specs.declared.change.Change.TheVariants.{Put, Delete}
-use Rattle.tup_table.specs.declared.entry.Entry.{Entry}
 
 pub antisymmetric : IsAntisymmetric by_bytes
 antisymmetric = slice_cmp-IsAntisymmetric nat_cmp-IsAntisymmetric
@@ -30,7 +29,7 @@ other_key q k differs =
     ]) refl
 
 -- ---- after a put
-put_found : {X : Type 0} (es : List (List ℕ × X)) (k : List ℕ) (v : X) → lookup (is_at (by_bytes k)) (insert_entry by_bytes es k v) ≡ Some v
+pub put_found : {X : Type 0} (es : List (List ℕ × X)) (k : List ℕ) (v : X) → lookup (is_at (by_bytes k)) (insert_entry by_bytes es k v) ≡ Some v
 put_found [] k v = rw (same_key k) refl
 put_found (e ∷ es) k v =
     (elim (by_bytes k e.0) as (λ o. by_bytes k e.0 ≡ o → lookup (is_at (by_bytes k)) (match_ordering o ((k, v) ∷ e ∷ es) ((e.0, v) ∷ es) (e ∷ insert_entry by_bytes es k v)) ≡ Some v) [
@@ -39,10 +38,10 @@ put_found (e ∷ es) k v =
       | Greater ↦ λ o. rw o (put_found es k v)
     ]) refl
 
-put_others : (es : Standing) (k : List ℕ) (v : Entry) (q : List ℕ) → q ≢ k → entry_at (insert_entry by_bytes es k v) q ≡ entry_at es q
+pub put_others : {X : Type 0} (es : List (List ℕ × X)) (k : List ℕ) (v : X) (q : List ℕ) → q ≢ k → lookup (is_at (by_bytes q)) (insert_entry by_bytes es k v) ≡ lookup (is_at (by_bytes q)) es
 put_others [] k v q differs = rw (other_key q k differs) refl
 put_others (e ∷ es) k v q differs =
-    (elim (by_bytes k e.0) as (λ o. by_bytes k e.0 ≡ o → lookup (is_at (by_bytes q)) (match_ordering o ((k, v) ∷ e ∷ es) ((e.0, v) ∷ es) (e ∷ insert_entry by_bytes es k v)) ≡ entry_at (e ∷ es) q) [
+    (elim (by_bytes k e.0) as (λ o. by_bytes k e.0 ≡ o → lookup (is_at (by_bytes q)) (match_ordering o ((k, v) ∷ e ∷ es) ((e.0, v) ∷ es) (e ∷ insert_entry by_bytes es k v)) ≡ lookup (is_at (by_bytes q)) (e ∷ es)) [
       | Less ↦ λ o. rw (other_key q k differs) refl
       | Equal ↦ λ o. (let off : is_at (by_bytes q) e.0 ≡ false = other_key q e.0 (λ same. differs (same ∙ sym (antisymmetric k e.0 o))) in rw off refl)
       | Greater ↦ λ o. ap (cond (is_at (by_bytes q) e.0) (Some e.1)) (put_others es k v q differs)
@@ -76,10 +75,10 @@ deleted_others (e ∷ es) k q differs =
 
 -- ---- the order of keys
 module _ (P : List ℕ → Type 0) where
-  abbrev OfKey : List ℕ × Entry → Type 0
+  abbrev OfKey : {X : Type 0} → List ℕ × X → Type 0
   OfKey e = P e.0
 
-  all_put : (es : Standing) (k : List ℕ) (v : Entry) → P k → AllByRecursion OfKey es → AllByRecursion OfKey (insert_entry by_bytes es k v)
+  all_put : {X : Type 0} (es : List (List ℕ × X)) (k : List ℕ) (v : X) → P k → AllByRecursion OfKey es → AllByRecursion OfKey (insert_entry by_bytes es k v)
   all_put [] k v one all = (one, tt)
   all_put (e ∷ es) k v one all =
       elim (by_bytes k e.0) as (λ o. AllByRecursion OfKey (match_ordering o ((k, v) ∷ e ∷ es) ((e.0, v) ∷ es) (e ∷ insert_entry by_bytes es k v))) [
@@ -100,7 +99,7 @@ pub all_after : {X : Type 0} (k first : List ℕ) (es : List (List ℕ × X)) �
 all_after k first [] less all = tt
 all_after k first (e ∷ es) less all = (nat_list_cmp_total.trans k first e.0 less all.0, all_after k first es less all.1)
 
-put_ascending : (es : Standing) (k : List ℕ) (v : Entry) → IsAscending es → IsAscending (insert_entry by_bytes es k v)
+pub put_ascending : {X : Type 0} (es : List (List ℕ × X)) (k : List ℕ) (v : X) → IsAscending es → IsAscending (insert_entry by_bytes es k v)
 put_ascending [] k v up = (tt, tt)
 put_ascending (e ∷ es) k v up =
     (elim (by_bytes k e.0) as (λ o. by_bytes k e.0 ≡ o → IsAscending (match_ordering o ((k, v) ∷ e ∷ es) ((e.0, v) ∷ es) (e ∷ insert_entry by_bytes es k v))) [

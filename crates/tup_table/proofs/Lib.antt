@@ -18,6 +18,7 @@ pub mod Switching
 pub mod Stands
 pub mod Committing
 pub mod Sizes
+pub mod Gathering
 pub mod Readying
 pub mod Commits
 pub mod Compacted

@@ -1,5 +1,5 @@
 -- How many bytes entries take after a change.
-use Rattle.std.proofs.Common.{◌≡◌, ◌≢◌, ℕ, zero, suc, true, false, cond, ◌+◌, ◌-◌, ◌*◌, ◌≤◌, List, [], ◌∷◌, ◌++◌, Option, Some, None, Result, Ok, Err, MatchResult, length, map, length-append, refl, sym, ap, subst, ◌∙◌, arith}
+use Rattle.std.proofs.Common.{◌≡◌, ◌≢◌, ℕ, zero, suc, true, false, cond, ◌+◌, ◌-◌, ◌*◌, ◌≤◌, List, [], ◌∷◌, ◌++◌, Option, Some, None, length, map, length-append, refl, sym, ap, subst, ◌∙◌, arith}
 use Rattle.std.proofs.lemmas.Bool.{false≢true}
 use Rattle.std.specs.BTreeMap.{insert_entry, is_at}
 use Rattle.std.specs.List.{AllByRecursion}
@@ -7,21 +7,18 @@ use Rattle.std.specs.Map.{remove_entry}
 use Rattle.std.specs.Ordering.{match_ordering, is_eq}
 use Rattle.std.specs.declared.cmp.Ordering.TheVariants.{Less, Equal, Greater}
 use Rattle.tup_path.specs.Order.{by_bytes}
-use Rattle.tup_table.specs.Appending.{HasShortKey}
 use Rattle.tup_table.specs.Compact.{EntriesFit, HasSameValues, put_of, size_of, size_in, size_at, size_known, size_left, live_by, live_size}
 use Rattle.tup_table.specs.Entries.{Standing, IsAscending, changed, committed, left_from, entries_of, entry_at, key_of}
-use Rattle.tup_table.specs.Spelling.{ChangeFits, ChangesFit, change_spelling, payload, commit, blocks}
+use Rattle.tup_table.specs.Spelling.{ChangesFit, change_spelling, payload, commit, blocks}
 use Rattle.tup_table.specs.Store.{header}
 use Rattle.tup_table.specs.Slots.{Slots, AreSlotsOf, standing}
 use Rattle.tup_table.specs.declared.change.Change.{Change}
 use Rattle.tup_table.specs.declared.change.Change.TheVariants.{Put, Delete}
 use Rattle.tup_table.specs.declared.entry.Entry.{Entry}
-use Rattle.tup_table.specs.declared.fault.TableFault.{TableFault}
-use Rattle.tup_table.specs.declared.fault.TableFault.TheVariants.{Memory}
 use Rattle.tup_table.proofs.Keys.{antisymmetric, same_key, none_behind, all_after, changed_ascending, committed_ascending, after_put, after_delete, after_others}
 use Rattle.tup_table.proofs.Stores.{committed-push, length-blocks}
 use Rattle.tup_table.proofs.Appends.{length-put, length-payload, length-appending}
-use Rattle.tup_table.proofs.Compact.{length-puts, changed_fits, committed_fits}
+use Rattle.tup_table.proofs.Compact.{length-puts, committed_fits}
 
 -- a key before all others has no entry
 none_first : (k : List ℕ) (es : Standing) → AllByRecursion (λ later. by_bytes k later.0 ≡ Less) es → entry_at es k ≡ None
@@ -73,18 +70,8 @@ short_at (e ∷ es) k v fit there =
       | Greater ↦ λ o t. short_at es k v fit.1 t
     ]) refl there
 
--- a change that has a spelling has a short key
-pub short_key : (c : Change) → HasShortKey c → length (key_of c) ≤ 65535
-short_key (Put k v) short = short
-short_key (Delete k) short = short
-
--- what the entries take once one change is made, by what stood under its key
-pub applied_size : (origin : ℕ) (es : Standing) (c : Change) → IsAscending es → (size grown before more : ℕ) → size ≡ size_of es → grown ≡ size + more → before ≡ size_at es (key_of c) → more ≡ size_left c
-    → grown - before ≡ size_of (changed origin es c)
-applied_size origin es c up size grown before more is sum at left = omega (arith, is, sum, at, left, changed_size origin es c up, size_inside es (key_of c) up)
-
 -- ---- tests of keys
-same_at : (k q : List ℕ) → is_at (by_bytes k) q ≡ true → k ≡ q
+pub same_at : (k q : List ℕ) → is_at (by_bytes k) q ≡ true → k ≡ q
 same_at k q same =
     (elim (by_bytes k q) as (λ o. by_bytes k q ≡ o → is_eq o ≡ true → k ≡ q) [
       | Less ↦ λ o t. absurd (cc)
@@ -92,7 +79,7 @@ same_at k q same =
       | Greater ↦ λ o t. absurd (cc)
     ]) refl same
 
-not_at : (k q : List ℕ) → is_at (by_bytes k) q ≡ false → q ≢ k
+pub not_at : (k q : List ℕ) → is_at (by_bytes k) q ≡ false → q ≢ k
 not_at k q other e = let same : is_at (by_bytes k) q ≡ true = subst (λ (x : List ℕ). is_at (by_bytes k) x ≡ true) (sym e) (same_key k) in false≢true (sym other ∙ same)
 
 -- ---- sizes while changes are counted
@@ -170,11 +157,6 @@ size_same one other same = sym (length-puts one) ∙ ap (λ (vs : List (List ℕ
 -- ---- the sizes that a map of slots keeps
 pub slots_same : (old new : Slots) (size : ℕ) → AreSlotsOf size old → standing new ≡ standing old → AreSlotsOf size new
 slots_same old new size are same = subst (λ (es : Standing). EntriesFit es × (size ≡ size_of es) × (size ≤ 4611686018427387904)) (sym same) are
-
-pub slots_changed : (old new : Slots) (origin : ℕ) (change : Change) (size : ℕ) → EntriesFit (standing old) → ChangeFits change → standing new ≡ changed origin (standing old) change → size ≤ 4611686018427387904 → size ≡ size_of (changed origin (standing old) change)
-    → AreSlotsOf size new
-slots_changed old new origin change size fit fits is small takes =
-    subst (λ (es : Standing). EntriesFit es × (size ≡ size_of es) × (size ≤ 4611686018427387904)) (sym is) (changed_fits origin (standing old) change fits fit, takes, small)
 
 pub slots_committed : (old new : Slots) (origin : ℕ) (changes : List Change) (size : ℕ) → EntriesFit (standing old) → ChangesFit changes → standing new ≡ committed origin (standing old) changes → size ≤ 4611686018427387904 → size ≡ size_of (committed origin (standing old) changes)
     → AreSlotsOf size new

@@ -1,7 +1,7 @@
 -- How entries are kept in memory (own): a key may have room without a value, so that a commit can be taken in without
 -- memory once it is written.
 use Rattle.std.specs.Prelude.{◌≡◌, ℕ, ◌≤◌, true, List, [], ◌∷◌, Option, Some, None, is_some}
-use Rattle.std.specs.BTreeMap.{is_at}
+use Rattle.std.specs.BTreeMap.{insert_entry, is_at}
 use Rattle.std.specs.List.{AllByRecursion}
 use Rattle.std.specs.Map.{lookup}
 use Rattle.tup_path.specs.Order.{by_bytes}
@@ -29,6 +29,16 @@ standing (slot ∷ slots) = in_front slot.0 slot.1 (standing slots)
 abbrev pub in_slot : Option (Option Entry) → Option Entry
 in_slot None = None
 in_slot (Some slot) = slot
+
+-- slots with more of them filled, one after another
+abbrev pub gathered : Slots → Slots → Slots
+gathered slots [] = slots
+gathered slots (slot ∷ more) = gathered (insert_entry by_bytes slots slot.0 slot.1) more
+
+-- the key of a change in a commit behind the gate at this offset, and what the change leaves there
+abbrev pub slot_of : ℕ → Change → List ℕ × Option Entry
+slot_of origin (Put key value) = (key, Some (record { value = value; origin = origin }))
+slot_of origin (Delete key) = (key, None)
 
 -- the entries of slots have spellings, and take this many bytes
 abbrev pub AreSlotsOf : ℕ → Slots → Type 0

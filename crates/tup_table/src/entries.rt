@@ -1,15 +1,12 @@
 //! The entries of a table.
-ghost use Rattle.std.specs.Prelude.{◌≡◌, ◌≤◌, [], OnOk, IfErr, option_map};
+ghost use Rattle.std.specs.Prelude.{◌≡◌, ◌≤◌, [], option_map};
 ghost use Rattle.std.specs.Option.{option_copied};
 ghost use Rattle.tup_table.specs.Compact.{EntriesFit, live_size, size_at, size_of};
-ghost use Rattle.tup_table.specs.Entries.{IsAscending, changed, entry_at};
-ghost use Rattle.tup_table.specs.Spelling.{ChangeFits};
+ghost use Rattle.tup_table.specs.Entries.{IsAscending, entry_at};
 
-use crate::change::Change;
 use crate::entry::Entry;
-use crate::fault::TableFault;
-use crate::size::{change_size, entry_size, front_size, live_of, put_size, with};
-use crate::slots::{Slots, apply};
+use crate::size::{live_of, put_size};
+use crate::slots::Slots;
 use std::alloc::Global;
 use std::collections::BTreeMap;
 use std::collections::btree_map::Iter;
@@ -125,18 +122,5 @@ impl Entries {
             Some(entry) => put_size(key, &entry.value),
             None => 0,
         }
-    }
-
-    /// Takes in a change of the commit behind the gate at an offset. After a refusal the entries are as they were.
-    pub(crate) fn apply(&mut self, change: Change, origin: u64) -> Result<(), TableFault>
-        requires { ChangeFits change }
-        ensures ok { OnOk result (self.new ≡ changed origin self.old change) }
-        ensures err { IfErr result (λ fault. (fault ≡ TableFault.Memory) × (self.new ≡ self.old)) }
-    {
-        let front = front_size(&change);
-        let grown = with(self.size, change_size(&change))?;
-        let stood = apply(&mut self.slots, change, origin)?;
-        self.size = grown - entry_size(front, &stood);
-        Ok(())
     }
 }

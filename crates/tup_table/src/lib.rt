@@ -22,6 +22,7 @@ mod entry;
 mod fault;
 mod finishing;
 mod found;
+mod gathered;
 mod laws;
 mod opened;
 mod opening;

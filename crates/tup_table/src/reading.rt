@@ -12,9 +12,9 @@ ghost use Rattle.tup_table.specs.declared.opened.Opened.{Opened};
 
 use crate::change::Change;
 use crate::compacting::snapshot_of;
-use crate::entries::Entries;
 use crate::fault::TableFault;
 use crate::found::Found;
+use crate::gathered::Gathered;
 use crate::opened::Opened;
 use crate::reader::Reader;
 use byteorder::{BigEndian, ByteOrder};
@@ -154,13 +154,14 @@ pub(crate) fn read_area(alloc: Global, start: u64, area: &[u8]) -> Result<Opened
     requires { start + length area.now ≤ 18446744073709551615 }
     ensures { (result ≡ Err TableFault.Memory) ⊎ AreaReadsAs start area.now result }
 {
-    let mut entries = Entries::new(alloc);
+    let mut entries = Gathered::new(alloc);
     let mut rest = area;
     'commits: while let Some(block) = behind_gate(rest) {
         let done = passed(area, rest);
         rest = take_commit(alloc, &mut entries, LOW + done, start + done, block)?;
     }
     let gate = start + passed(area, rest);
+    let entries = entries.into_entries(alloc)?;
     Ok(Opened { entries, gate })
 }
 
@@ -187,7 +188,7 @@ fn behind_gate(bytes: &[u8]) -> Option<&[u8]>
 /// behind it. After a refusal the entries are of no use.
 fn take_commit<'a>(
     alloc: Global,
-    entries: &mut Entries,
+    entries: &mut Gathered,
     origin: u64,
     gate: u64,
     block: &'a [u8],
@@ -210,7 +211,7 @@ fn take_commit<'a>(
 /// After a refusal the entries are of no use.
 fn take_changes(
     alloc: Global,
-    entries: &mut Entries,
+    entries: &mut Gathered,
     origin: u64,
     gate: u64,
     payload: &[u8],

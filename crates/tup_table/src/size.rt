@@ -3,12 +3,11 @@ ghost use Rattle.std.specs.Prelude.{◌≡◌, ◌+◌, ◌≤◌, length, cond,
 ghost use Rattle.std.specs.BTreeMap.{get, is_at};
 ghost use Rattle.tup_path.specs.Order.{by_bytes};
 ghost use Rattle.tup_table.specs.Appending.{HasShortKey};
-ghost use Rattle.tup_table.specs.Compact.{size_in, size_of, size_known, size_left, live_by};
+ghost use Rattle.tup_table.specs.Compact.{size_of, size_known, size_left, live_by};
 ghost use Rattle.tup_table.specs.Entries.{committed, key_of as key_of_change};
 
 use crate::change::Change;
 use crate::entries::Entries;
-use crate::entry::Entry;
 use crate::fault::TableFault;
 use std::alloc::Global;
 use std::collections::BTreeMap;
@@ -76,25 +75,6 @@ fn size_before(entries: &Entries, changed: &BTreeMap<Bytes, u64>, key: &Bytes) -
     match changed.get(key) {
         Some(size) => *size,
         None => entries.size_at(key),
-    }
-}
-
-/// How many bytes the entry of a change's key takes beside its value.
-pub(crate) fn front_size(change: &Change) -> u64
-    requires { HasShortKey change.now }
-    ensures { result ≡ 7 + length (key_of_change change.now) }
-{
-    7 + key_of(change).as_slice().len() as u64
-}
-
-/// How many bytes an entry takes, if there is one, of which so many are beside its value.
-pub(crate) fn entry_size(front: u64, entry: &Option<Entry>) -> u64
-    requires { front ≤ 65542 }
-    ensures { (key : List ℕ) → front ≡ 7 + length key → result ≡ size_in key entry.now }
-{
-    match entry {
-        Some(entry) => front + entry.value.as_slice().len() as u64,
-        None => 0,
     }
 }
 

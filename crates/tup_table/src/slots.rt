@@ -1,9 +1,9 @@
 //! How entries are kept in memory.
-ghost use Rattle.std.specs.Prelude.{◌≡◌, OnOk, IfOk, IfErr, MatchResult};
+ghost use Rattle.std.specs.Prelude.{◌≡◌, OnOk, IfErr, MatchResult};
 ghost use Rattle.std.specs.BTreeMap.{insert_entry, IsOrdered};
 ghost use Rattle.tup_path.specs.Order.{by_bytes};
-ghost use Rattle.tup_table.specs.Entries.{changed, committed, entry_at, key_of};
-ghost use Rattle.tup_table.specs.Slots.{in_slot, standing, HasSlot, HasRoom, HaveRoom, RoomStays};
+ghost use Rattle.tup_table.specs.Entries.{changed, committed};
+ghost use Rattle.tup_table.specs.Slots.{standing, HasSlot, HasRoom, HaveRoom, RoomStays};
 
 use crate::change::Change;
 use crate::entry::Entry;
@@ -14,40 +14,6 @@ use tup_path::Bytes;
 
 /// Keys with what stands under them; `None` where a key has room and no value.
 pub(crate) type Slots = BTreeMap<Bytes, Option<Entry>>;
-
-/// Takes in a change of the commit behind the gate at an offset, and gives what stood under its key. After a refusal the entries are
-/// as they were.
-pub(crate) fn apply(
-    slots: &mut Slots,
-    change: Change,
-    origin: u64,
-) -> Result<Option<Entry>, TableFault>
-    requires { IsOrdered by_bytes slots.old }
-    ensures stood { IfOk result
-        (λ stood. stood ≡ entry_at (standing slots.old.entries) (key_of change)) }
-    ensures ok { OnOk result
-        (standing slots.new.entries ≡ changed origin (standing slots.old.entries) change) }
-    ensures err { IfErr result (λ fault. (fault ≡ TableFault.Memory)
-        × (standing slots.new.entries ≡ standing slots.old.entries)) }
-    ensures ordered { IsOrdered by_bytes slots.new }
-{
-    match change {
-        Change::Put { key, value } => {
-            Ok(filled(slots.insert(key, Some(Entry { value, origin }))?))
-        }
-        Change::Delete { key } => Ok(filled(slots.remove(&key))),
-    }
-}
-
-/// What stood in a slot, if there was one.
-fn filled(slot: Option<Option<Entry>>) -> Option<Entry>
-    ensures { result ≡ in_slot slot }
-{
-    match slot {
-        Some(stood) => stood,
-        None => None,
-    }
-}
 
 /// Makes room for the keys that changes put. What stands there stays, also after a refusal.
 pub(crate) fn make_room(

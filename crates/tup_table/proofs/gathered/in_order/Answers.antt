@@ -1,0 +1,19 @@
+use Rattle.std.proofs.Common.{arith}
+use Rattle.std.specs.BTreeMap.{IsFromIterResult}
+use Rattle.std.proofs.lemmas.Iterator.Adapters.{YieldsList-from_vec, fact_from_collect}
+use Rattle.std.proofs.lemmas.Result.{IfOk-weaker}
+use Rattle.tup_path.specs.Order.{by_bytes}
+use Rattle.tup_table.proofs.Gathering.{made_of}
+use Rattle.tup_table.proofs.gathered.in_order.Goals as goal
+
+pub returns-clause-entries : goal.returns-clause-entries
+returns-clause-entries c =
+    let slots = c.args.slots.items in
+    IfOk-weaker c.collect.result _ _ (λ map made. made_of slots map made) (fact_from_collect (IsFromIterResult by_bytes) c.collect.result c.collect.ensures.ran
+    (YieldsList-from_vec slots c.into_iter.ensures.rest (omega (arith, c.into_iter.ensures.len, c.args.slots.ok.0))))
+
+pub returns-clause-ordered : goal.returns-clause-ordered
+returns-clause-ordered c =
+    let slots = c.args.slots.items in
+    IfOk-weaker c.collect.result _ _ (λ map made. made.1) (fact_from_collect (IsFromIterResult by_bytes) c.collect.result c.collect.ensures.ran
+    (YieldsList-from_vec slots c.into_iter.ensures.rest (omega (arith, c.into_iter.ensures.len, c.args.slots.ok.0))))
