@@ -36,6 +36,8 @@ pub enum Standing {
 #[derive(Drop)]
 pub struct Seen {
     pub(crate) folders: BTreeSet<String>,
+    /// The folder that was last seen to stand with all above it: files are mostly asked for folder by folder.
+    last: Option<Path>,
 }
 
 impl Seen {
@@ -45,6 +47,18 @@ impl Seen {
     {
         Seen {
             folders: BTreeSet::new(alloc),
+            last: None,
+        }
+    }
+
+    // Whether a path is in the folder that was last seen.
+    fn is_last(&self, path: &Path) -> bool {
+        let Some(last) = &self.last else {
+            return false;
+        };
+        match path.names().split_last() {
+            Some((_, above)) => above == last.names(),
+            None => false,
         }
     }
 }
@@ -76,6 +90,27 @@ impl<R: Files<File = File> + Clone + Drop> Disk<R> {
     /// What stands above a path: a folder if all is, or else the first that is none. A folder that
     /// was seen isn't looked at again.
     pub fn standing_above(&self, seen: &mut Seen, path: &Path) -> Result<Standing, Refused> {
+        if seen.is_last(path) {
+            return Ok(Standing::Folder);
+        }
+        let standing = self.look_above(seen, path)?;
+        if standing == Standing::Folder {
+            self.remember(seen, path)?;
+        }
+        Ok(standing)
+    }
+
+    // All above a path stands.
+    fn remember(&self, seen: &mut Seen, path: &Path) -> Result<(), Refused> {
+        match path.parent(self.alloc) {
+            Ok(folder) => seen.last = folder,
+            Err(_) => return Err(Refused::Memory),
+        }
+        Ok(())
+    }
+
+    // The same, one folder after another from the top down.
+    fn look_above(&self, seen: &mut Seen, path: &Path) -> Result<Standing, Refused> {
         for folder in self.folders_above(path)? {
             let standing = self.standing_of_folder(seen, folder)?;
             if standing != Standing::Folder {
@@ -126,6 +161,7 @@ impl<R: Files<File = File> + Clone + Drop> Disk<R> {
     pub fn remove_folder(&self, seen: &mut Seen, folder: &String) -> io::Result<()>
         ensures { contains_text seen.new.folders (string_bytes folder.now) ≡ false }
     {
+        seen.last = None;
         seen.folders.remove(folder);
         fs::remove_dir(&self.rt, folder.as_str())
     }
