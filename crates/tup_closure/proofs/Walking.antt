@@ -14,7 +14,7 @@ use Rattle.tup_graph.specs.Graph.{GraphState, is_rule, outputs_of}
 use Rattle.tup_closure.specs.Readers.{AreRunsOfRules, HasAskedOneOf}
 use Rattle.tup_closure.specs.Walk.{IsReached, IsWaiting, GoesTo, IsDone, IsWalk}
 use Rattle.tup_closure.specs.declared.walk.Walk.{Walk}
-use Rattle.tup_closure.proofs.Growing.{grows_on, grows_as, grows_nothing}
+use Rattle.tup_closure.proofs.Growing.{grows_on, grows_as}
 use Rattle.tup_closure.proofs.Members.{contained, in_set, in_empty, few_below, number-decides}
 use Rattle.tup_closure.proofs.Asked.{asked_more}
 
@@ -53,17 +53,6 @@ goes_as {P} {Q} {a} {b} to from one = record {
     others : (n : ℕ) → IsWaiting a n ⊎ P n → IsWaiting a n ⊎ Q n
     others n (inl was) = inl was
     others n (inr p) = inr (to n p)
-
-pub goes_nowhere : {P : ℕ → Type 0} (a : Walk) → ((n : ℕ) → P n → ⊥) → GoesTo P a a
-goes_nowhere a none = record {
-  reached = grows_nothing none;
-  waits = λ n r. inl r;
-  still = λ n w. w;
-  no_others = λ n w. inl w;
-  as_many = refl;
-  more = omega arith;
-  ordered = λ o. o;
-}
 
 none_listed : {X : Type 0} (x : X) → Contains [] x → ⊥
 none_listed x h = let less = h.1 in omega arith

@@ -28,7 +28,7 @@ pub fn above(alloc: Global, graph: &Indexed, roots: &[u32]) -> Result<Items<u32>
     let mut walk = Walk::new(alloc);
     walk.reach_all(roots)?;
     'rules: while let Some(number) = walk.waiting.pop() {
-        walk.visit(graph, number)?;
+        walk.visit(alloc, graph, number)?;
     }
     walk.numbers(alloc)
 }
@@ -53,47 +53,44 @@ impl Walk {
     }
 
     /// Comes to those who read what a rule makes.
-    fn visit(&mut self, graph: &Indexed, number: u32) -> Result<(), GraphFault>
+    fn visit(&mut self, alloc: Global, graph: &Indexed, number: u32) -> Result<(), GraphFault>
         ensures goes { OnOk result (GoesTo
             (HasAskedOneOf graph.now (outputs_in graph.now number)) self.old self.new) }
         ensures memory { IfErr result (λ fault. fault ≡ GraphFault.Memory) }
     {
-        self.reach_readers(graph, outputs_of(graph.nodes(), number))
+        self.reach_readers(alloc, graph, outputs_of(graph.nodes(), number))
     }
 
     /// Comes to those who read some paths.
-    fn reach_readers(&mut self, graph: &Indexed, paths: &[Path]) -> Result<(), GraphFault>
+    fn reach_readers(
+        &mut self,
+        alloc: Global,
+        graph: &Indexed,
+        paths: &[Path],
+    ) -> Result<(), GraphFault>
         ensures goes { OnOk result (GoesTo
             (HasAskedOneOf graph.now paths.now) self.old self.new) }
         ensures memory { IfErr result (λ fault. fault ≡ GraphFault.Memory) }
     {
         for path in paths {
-            self.reach_readers_of(graph, path)?;
+            self.reach_readers_of(alloc, graph, path)?;
         }
         Ok(())
     }
 
     /// Comes to those who read a path.
-    fn reach_readers_of(&mut self, graph: &Indexed, path: &Path) -> Result<(), GraphFault>
+    fn reach_readers_of(
+        &mut self,
+        alloc: Global,
+        graph: &Indexed,
+        path: &Path,
+    ) -> Result<(), GraphFault>
         ensures goes { OnOk result (GoesTo
             (λ number. HasAsked graph.now number path.now) self.old self.new) }
         ensures memory { IfErr result (λ fault. fault ≡ GraphFault.Memory) }
     {
-        match graph.readers(path) {
-            Some(numbers) => self.reach_set(numbers),
-            None => Ok(()),
-        }
-    }
-
-    /// Comes to the rules of a set.
-    fn reach_set(&mut self, numbers: &BTreeSet<u32>) -> Result<(), GraphFault>
-        ensures goes { OnOk result (GoesTo (Contains numbers.now.keys) self.old self.new) }
-        ensures memory { IfErr result (λ fault. fault ≡ GraphFault.Memory) }
-    {
-        for number in numbers {
-            self.reach(*number)?;
-        }
-        Ok(())
+        let numbers = graph.readers_of(alloc, path)?;
+        self.reach_all(&numbers)
     }
 
     /// Comes to some rules.

@@ -1,6 +1,8 @@
 //! What a scan found, noted in the store of a project.
-ghost use Rattle.std.specs.Prelude.{◌≡◌, IsTrue, OnOk};
+ghost use Rattle.std.specs.Prelude.{◌≡◌, IsTrue, IfErr, OnOk};
 ghost use Rattle.tup_site.specs.World.{TreeStays};
+ghost use Rattle.tup_table.specs.Table.{entries_in};
+ghost use Rattle.tup_graph.specs.Opening.{IsGraphOf};
 ghost use Rattle.tup_graph.specs.Scan.{IsScanned};
 ghost use Rattle.tup_stored_graph.specs.Cause.{CountsFaults};
 ghost use Rattle.tup_stored_graph.specs.Held.{is_fresh, StandsFor};
@@ -11,7 +13,7 @@ use std::alloc::Global;
 use tup_closure::runs_are_of_rules;
 use tup_graph::GraphFault;
 use tup_scan::Seen;
-use tup_scan_diff::{scan_edits_are_read, scan_edits_leave};
+use tup_scan_diff::{asks_for_users, scan_edits_are_read, scan_edits_leave};
 use tup_site::Site;
 use tup_stored_graph::Graph;
 
@@ -19,6 +21,47 @@ use tup_stored_graph::Graph;
 /// other contents are to be run with all that recorded reads lead to from them and from the flagged ones, and folders whose
 /// readings were told what isn't so any more are to be read. Where that changes nothing, nothing is written.
 pub fn note_scan<S: Site>(
+    alloc: Global,
+    graph: &mut Graph,
+    site: &mut S,
+    seen: &Seen,
+) -> Result<(), GraphFault>
+    requires fresh { IsTrue (is_fresh graph.old) }
+    requires stands { IsTrue S.tells
+        → StandsFor S.world S.moment S.left_since graph.old site.old }
+
+    ensures notes { NotesScan seen.now.files seen.now.config
+        graph.old graph.new site.old site.new result }
+    ensures scanned { OnOk result
+        (IsScanned graph.old.nodes seen.now.files seen.now.config graph.new.nodes) }
+    ensures fresh { OnOk result (IsTrue (is_fresh graph.new)) }
+    ensures stands { IsTrue S.tells → IsTrue (is_fresh graph.new)
+        → StandsFor S.world S.moment S.left_since graph.new site.new }
+    ensures tree { IsTrue S.tells → TreeStays (S.world site.old) (S.world site.new) }
+    ensures crash { IsTrue S.tells → LeavesScanned S.moment S.left_since site.old site.new
+        graph.old.nodes seen.now.files seen.now.config }
+    ensures known { IsTrue S.tells → S.known site.new ≡ S.known site.old }
+    ensures cause { CountsFaults (S.faults site.old) (S.faults site.new) result }
+{
+    know_users(alloc, graph, seen)?;
+    commit_scan(alloc, graph, site, seen)
+}
+
+/// Makes the maps of the graph, if the scan asks for them.
+fn know_users(alloc: Global, graph: &mut Graph, seen: &Seen) -> Result<(), GraphFault>
+    ensures same { graph.new ≡ graph.old }
+    ensures sound { IsTrue (is_fresh graph.old)
+        → IsGraphOf (entries_in graph.old.table) graph.old.nodes }
+    ensures memory { IfErr result (λ fault. fault ≡ GraphFault.Memory) }
+{
+    if asks_for_users(graph.indexed(), seen) {
+        return graph.know_users(alloc);
+    }
+    Ok(())
+}
+
+/// Takes note of a scan as `note_scan` does, with the maps of the graph as they are.
+fn commit_scan<S: Site>(
     alloc: Global,
     graph: &mut Graph,
     site: &mut S,

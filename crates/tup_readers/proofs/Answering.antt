@@ -49,7 +49,7 @@ module _ {K : Type 0} (cmp : K → K → Ordering) (total : IsTotalOrder cmp) (e
   all_listed items found is x = subst (λ (l : List K). Contains l x ↔ (is_in cmp found x ≡ true)) (sym is) (among found x)
 
 -- the rules that asked a path are those in its set
-pub readers_in : (g : GraphState) (users : Users) (path : Names) (found : Option (BTreeSet ℕ)) → AreUsers g.runs users → found ≡ get by_names users.readers.map path
+readers_in : (g : GraphState) (users : Users) (path : Names) (found : Option (BTreeSet ℕ)) → AreUsers g.runs users → found ≡ get by_names users.readers.map path
     → (number : ℕ) → (is_in nat_cmp found number ≡ true) ↔ HasAsked g number path
 readers_in g users path found are there number = (to, from)
   where
@@ -62,7 +62,7 @@ readers_in g users path found are there number = (to, from)
     from (run, given, here, in_it) = subst (λ (o : Option (BTreeSet ℕ)). is_in nat_cmp o number ≡ true) (sym there) ((are.0 (path, number)).1 (run, here, (path, given), in_it, refl))
 
 -- and those that wrote it
-pub writers_in : (g : GraphState) (users : Users) (path : Names) (found : Option (BTreeSet ℕ)) → AreUsers g.runs users → found ≡ get by_names users.writers.map path
+writers_in : (g : GraphState) (users : Users) (path : Names) (found : Option (BTreeSet ℕ)) → AreUsers g.runs users → found ≡ get by_names users.writers.map path
     → (number : ℕ) → (is_in nat_cmp found number ≡ true) ↔ HasWritten g number path
 writers_in g users path found are there number = (to, from)
   where
@@ -76,14 +76,18 @@ writers_in g users path found are there number = (to, from)
 
 -- those that are listed
 pub readers_listed : (g : GraphState) (users : Users) (path : Names) (items : List ℕ) (found : Option (BTreeSet ℕ)) → AreUsers g.runs users → found ≡ get by_names users.readers.map path
-    → items ≡ values_in nat_cmp nat_cmp_total nat_cmp-IsAntisymmetric found → (number : ℕ) → Contains items number ↔ HasAsked g number path
-readers_listed g users path items found are there is number = (λ h. asked.0 (listed_so.0 h), λ h. listed_so.1 (asked.1 h))
+    → ((number : ℕ) → Contains items number ↔ (is_in nat_cmp found number ≡ true)) → (number : ℕ) → Contains items number ↔ HasAsked g number path
+readers_listed g users path items found are there list number = (λ h. asked.0 ((list number).0 h), λ h. (list number).1 (asked.1 h))
   where
-    listed_so : Contains items number ↔ (is_in nat_cmp found number ≡ true)
-    listed_so = all_listed nat_cmp nat_cmp_total nat_cmp-IsAntisymmetric items found is number
-
     asked : (is_in nat_cmp found number ≡ true) ↔ HasAsked g number path
     asked = readers_in g users path found are there number
+
+pub writers_listed : (g : GraphState) (users : Users) (path : Names) (items : List ℕ) (found : Option (BTreeSet ℕ)) → AreUsers g.runs users → found ≡ get by_names users.writers.map path
+    → ((number : ℕ) → Contains items number ↔ (is_in nat_cmp found number ≡ true)) → (number : ℕ) → Contains items number ↔ HasWritten g number path
+writers_listed g users path items found are there list number = (λ h. wrote.0 ((list number).0 h), λ h. (list number).1 (wrote.1 h))
+  where
+    wrote : (is_in nat_cmp found number ≡ true) ↔ HasWritten g number path
+    wrote = writers_in g users path found are there number
 
 -- the folders that asked a question are those that are listed
 pub askers_listed : (g : GraphState) (askers : Askers) (question : Question) (items : List Names) (found : Option (BTreeSet Names)) → AreAskers g.readings askers → found ≡ askers_of askers question

@@ -1,13 +1,11 @@
 //! A graph in memory that knows who asked what.
-ghost use Rattle.std.specs.Prelude.{◌≡◌, ◌↔◌, ℕ, true, Contains, IfErr, IfOk, OnErr, OnOk};
+ghost use Rattle.std.specs.Prelude.{◌≡◌, ◌↔◌, ℕ, Contains, IfErr, IfOk, IfSome, OnErr, OnOk};
 ghost use Rattle.std.specs.List.Sorted.{IsStrictlySortedBy};
-ghost use Rattle.std.specs.Option.{option_copied};
 ghost use Rattle.std.specs.Ordering.{nat_cmp};
 ghost use Rattle.tup_graph.specs.Above.{HasAsked};
 ghost use Rattle.tup_graph.specs.Edits.{edited, edited_by};
 ghost use Rattle.tup_graph.specs.Graph.{empty_graph};
-ghost use Rattle.tup_readers.specs.Index.{HasQuestioned, HasWritten};
-ghost use Rattle.tup_readers.specs.Sets.{is_in};
+ghost use Rattle.tup_readers.specs.Index.{AreUsers, HasQuestioned, HasWritten};
 ghost use Rattle.tup_readers.specs.Suspects.{HasAllOthers};
 ghost use Rattle.tup_path.specs.Name.{Names};
 ghost use Rattle.tup_path.specs.Order.{by_names};
@@ -28,11 +26,13 @@ use tup_rule::Question;
 #[derive(Drop)]
 pub struct Indexed {
     nodes: Nodes,
-    users: Users,
+    /// The maps, once something was edited or `know_users` was called: an update with nothing to do needs none.
+    users: Option<Users>,
     suspects: Suspects,
 }
 
 impl Model for Indexed {
+    ghost use Rattle.std.specs.Prelude.{IfSome};
     ghost use Rattle.tup_graph.specs.Graph.{GraphState};
     ghost use Rattle.tup_graph.specs.contracts.nodes.Nodes as of_nodes;
     ghost use Rattle.tup_readers.specs.Index.{AreUsers};
@@ -44,7 +44,7 @@ impl Model for Indexed {
 
     ghost view = { λ i. i.nodes };
 
-    ghost invariant = { λ i. AreUsers i.nodes.runs i.users
+    ghost invariant = { λ i. IfSome i.users (AreUsers i.nodes.runs)
         × AreSuspects i.nodes.seen i.nodes.runs i.suspects };
 }
 
@@ -55,23 +55,37 @@ impl Indexed {
     {
         Indexed {
             nodes: Nodes::empty(alloc),
-            users: Users::new(alloc),
+            users: Some(Users::new(alloc)),
             suspects: Suspects::new(alloc),
         }
     }
 
-    /// A graph with its maps, in one pass over its records.
+    /// A graph whose maps are not made yet. It takes one pass over the records, for the rules that may no longer tell what is
+    /// seen.
     pub fn of(alloc: Global, nodes: Nodes) -> Result<Indexed, GraphFault>
         ensures nodes { IfOk result (λ indexed. indexed ≡ nodes) }
         ensures memory { IfErr result (λ fault. fault ≡ GraphFault.Memory) }
     {
-        let users = Users::of_nodes(alloc, &nodes)?;
         let suspects = Suspects::of_nodes(alloc, &nodes)?;
         Ok(Indexed {
             nodes,
-            users,
+            users: None,
             suspects,
         })
+    }
+
+    /// Makes the maps, if they aren't made yet, in one pass over the records. From then on `readers_of` and `writers_of` take
+    /// the logarithm of the number of paths in steps.
+    pub fn know_users(&mut self, alloc: Global) -> Result<(), GraphFault>
+        ensures same { self.new ≡ self.old }
+        ensures memory { IfErr result (λ fault. fault ≡ GraphFault.Memory) }
+    {
+        if self.users.is_some() {
+            return Ok(());
+        }
+        let users = Users::of_nodes(alloc, &self.nodes)?;
+        self.users = Some(users);
+        Ok(())
     }
 
     /// The nodes.
@@ -81,22 +95,6 @@ impl Indexed {
         &self.nodes
     }
 
-    /// The rules whose records ask a path, where there are some.
-    pub fn readers(&self, path: &Path) -> Option<&BTreeSet<u32>>
-        ensures { (number : ℕ) → (is_in nat_cmp (option_copied result) number ≡ true)
-            ↔ HasAsked self.now number path.now }
-    {
-        self.users.readers(path)
-    }
-
-    /// The rules whose records wrote a path, where there are some.
-    pub fn writers(&self, path: &Path) -> Option<&BTreeSet<u32>>
-        ensures { (number : ℕ) → (is_in nat_cmp (option_copied result) number ≡ true)
-            ↔ HasWritten self.now number path.now }
-    {
-        self.users.writers(path)
-    }
-
     /// Rules whose records may tell other stamps than those that are seen; all that do are among them.
     pub fn suspects(&self) -> &BTreeSet<u32>
         ensures { HasAllOthers self.now.seen self.now.runs result.now }
@@ -104,16 +102,29 @@ impl Indexed {
         &self.suspects.numbers
     }
 
-    /// The rules whose records ask a path, in ascending order.
+    /// The rules whose records ask a path, in ascending order. Where the maps aren't made it goes through all records.
     pub fn readers_of(&self, alloc: Global, path: &Path) -> Result<Vec<u32>, GraphFault>
         ensures readers { IfOk result (λ numbers. (number : ℕ)
             → Contains numbers.items number ↔ HasAsked self.now number path.now) }
         ensures ascending { IfOk result (λ numbers. IsStrictlySortedBy nat_cmp numbers.items) }
         ensures memory { IfErr result (λ fault. fault ≡ GraphFault.Memory) }
     {
-        match self.users.readers(path) {
-            Some(numbers) => Ok(listed_numbers(alloc, numbers)?),
-            None => Ok(Vec::new(alloc)),
+        match &self.users {
+            Some(users) => Ok(users.readers_of(alloc, path)?),
+            None => Ok(Users::find_readers(alloc, &self.nodes, path)?),
+        }
+    }
+
+    /// The rules whose records wrote a path, in ascending order. Where the maps aren't made it goes through all records.
+    pub fn writers_of(&self, alloc: Global, path: &Path) -> Result<Vec<u32>, GraphFault>
+        ensures writers { IfOk result (λ numbers. (number : ℕ)
+            → Contains numbers.items number ↔ HasWritten self.now number path.now) }
+        ensures ascending { IfOk result (λ numbers. IsStrictlySortedBy nat_cmp numbers.items) }
+        ensures memory { IfErr result (λ fault. fault ≡ GraphFault.Memory) }
+    {
+        match &self.users {
+            Some(users) => Ok(users.writers_of(alloc, path)?),
+            None => Ok(Users::find_writers(alloc, &self.nodes, path)?),
         }
     }
 
@@ -161,9 +172,10 @@ impl Indexed {
     {
         let Indexed {
             mut nodes,
-            mut users,
+            users,
             mut suspects,
         } = self;
+        let mut users = known(alloc, &nodes, users)?;
         suspects.edit(&nodes, &users, &edit)?;
         users.edit(alloc, &nodes, &edit)?;
         let mut edits = Items::new(alloc);
@@ -171,22 +183,21 @@ impl Indexed {
         nodes.edit_all(alloc, edits)?;
         Ok(Indexed {
             nodes,
-            users,
+            users: Some(users),
             suspects,
         })
     }
 }
 
-/// The numbers of a set, in ascending order.
-fn listed_numbers(alloc: Global, set: &BTreeSet<u32>) -> Result<Vec<u32>, AllocError>
-    ensures list { IfOk result (λ list. list.items ≡ set.now.keys) }
-    ensures ascending { IfOk result (λ list. IsStrictlySortedBy nat_cmp list.items) }
+/// The users of all paths, which are made if they aren't given.
+fn known(alloc: Global, nodes: &Nodes, users: Option<Users>) -> Result<Users, AllocError>
+    requires { IfSome users (AreUsers nodes.now.runs) }
+    ensures { IfOk result (AreUsers nodes.now.runs) }
 {
-    let mut list = Vec::new(alloc);
-    for number in set {
-        list.push(*number)?;
+    match users {
+        Some(users) => Ok(users),
+        None => Users::of_nodes(alloc, nodes),
     }
-    Ok(list)
 }
 
 /// The paths of a set, in their order.

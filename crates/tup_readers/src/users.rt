@@ -1,15 +1,18 @@
 //! Which rules asked or wrote a path.
-ghost use Rattle.std.specs.Prelude.{◌≡◌, OnOk, IfOk};
+ghost use Rattle.std.specs.Prelude.{◌≡◌, ◌↔◌, ℕ, true, Contains, OnOk, IfOk};
 ghost use Rattle.std.specs.BTreeMap.{get};
 ghost use Rattle.std.specs.FinMap as finite;
+ghost use Rattle.std.specs.List.Sorted.{IsStrictlySortedBy};
 ghost use Rattle.std.specs.Option.{option_copied};
 ghost use Rattle.std.specs.Ordering.{nat_cmp};
+ghost use Rattle.tup_graph.specs.Above.{HasAsked};
 ghost use Rattle.tup_graph.specs.Edits.{edited, without};
+ghost use Rattle.tup_graph.specs.Graph.{GraphState};
 ghost use Rattle.tup_graph.specs.Opening.{put as put_of};
 ghost use Rattle.tup_readers.specs.Changes.{Adds, Takes};
-ghost use Rattle.tup_readers.specs.Index.{AreUsers, HasReader, HasWriter, asks_of, path_of, writes_of};
+ghost use Rattle.tup_readers.specs.Index.{AreUsers, HasReader, HasWriter, HasWritten, asks_of, path_of, writes_of};
 ghost use Rattle.tup_readers.specs.Records.{AreOf};
-ghost use Rattle.tup_readers.specs.Sets.{Has};
+ghost use Rattle.tup_readers.specs.Sets.{Has, is_in};
 ghost use Rattle.tup_path.specs.Order.{by_names};
 
 use crate::sets::Sets;
@@ -60,6 +63,54 @@ impl Users {
         ensures { option_copied result ≡ get by_names self.now.writers.map path.now }
     {
         self.writers.of(path)
+    }
+
+    /// The rules whose records ask a path, in ascending order.
+    pub(crate) fn readers_of(&self, alloc: Global, path: &Path) -> Result<Vec<u32>, AllocError>
+        ensures readers { (g : GraphState) → AreUsers g.runs self.now
+            → IfOk result (λ numbers. (number : ℕ)
+            → Contains numbers.items number ↔ HasAsked g number path.now) }
+        ensures ascending { IfOk result (λ numbers. IsStrictlySortedBy nat_cmp numbers.items) }
+    {
+        listed(alloc, self.readers(path))
+    }
+
+    /// The rules whose records wrote a path, in ascending order.
+    pub(crate) fn writers_of(&self, alloc: Global, path: &Path) -> Result<Vec<u32>, AllocError>
+        ensures writers { (g : GraphState) → AreUsers g.runs self.now
+            → IfOk result (λ numbers. (number : ℕ)
+            → Contains numbers.items number ↔ HasWritten g number path.now) }
+        ensures ascending { IfOk result (λ numbers. IsStrictlySortedBy nat_cmp numbers.items) }
+    {
+        listed(alloc, self.writers(path))
+    }
+
+    /// The rules whose records ask a path, in ascending order, in one pass over the records of runs.
+    pub(crate) fn find_readers(
+        alloc: Global,
+        nodes: &Nodes,
+        path: &Path,
+    ) -> Result<Vec<u32>, AllocError>
+        ensures readers { IfOk result (λ numbers. (number : ℕ)
+            → Contains numbers.items number ↔ HasAsked nodes.now number path.now) }
+        ensures ascending { IfOk result (λ numbers. IsStrictlySortedBy nat_cmp numbers.items) }
+    {
+        let users = Users::of_nodes(alloc, nodes)?;
+        users.readers_of(alloc, path)
+    }
+
+    /// The rules whose records wrote a path, in ascending order, in one pass over the records of runs.
+    pub(crate) fn find_writers(
+        alloc: Global,
+        nodes: &Nodes,
+        path: &Path,
+    ) -> Result<Vec<u32>, AllocError>
+        ensures writers { IfOk result (λ numbers. (number : ℕ)
+            → Contains numbers.items number ↔ HasWritten nodes.now number path.now) }
+        ensures ascending { IfOk result (λ numbers. IsStrictlySortedBy nat_cmp numbers.items) }
+    {
+        let users = Users::of_nodes(alloc, nodes)?;
+        users.writers_of(alloc, path)
     }
 
     /// Takes in what an edit does to the records of a graph, which is given as it is before. It looks at what the record
@@ -151,6 +202,30 @@ impl Users {
         remove_all(&mut self.readers, run.asks.as_slice(), number);
         remove_all(&mut self.writers, run.writes.as_slice(), number);
     }
+}
+
+/// The numbers of a set, if there is one, in ascending order.
+fn listed(alloc: Global, set: Option<&BTreeSet<u32>>) -> Result<Vec<u32>, AllocError>
+    ensures list { IfOk result (λ list. (number : ℕ)
+        → Contains list.items number ↔ (is_in nat_cmp (option_copied set.entry) number ≡ true)) }
+    ensures ascending { IfOk result (λ list. IsStrictlySortedBy nat_cmp list.items) }
+{
+    match set {
+        Some(set) => listed_numbers(alloc, set),
+        None => Ok(Vec::new(alloc)),
+    }
+}
+
+/// The numbers of a set, in ascending order.
+fn listed_numbers(alloc: Global, set: &BTreeSet<u32>) -> Result<Vec<u32>, AllocError>
+    ensures list { IfOk result (λ list. list.items ≡ set.now.keys) }
+    ensures ascending { IfOk result (λ list. IsStrictlySortedBy nat_cmp list.items) }
+{
+    let mut list = Vec::new(alloc);
+    for number in set {
+        list.push(*number)?;
+    }
+    Ok(list)
 }
 
 /// Adds a rule to those of each path of a list.

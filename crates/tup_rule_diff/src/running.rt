@@ -11,7 +11,6 @@ ghost use Rattle.tup_rule_diff.specs.Running.{ReadsIfNew, ReadsOneNew, flag_at, 
 use crate::before::number_of;
 use crate::putting::{push_more, push_runs};
 use std::alloc::Global;
-use std::collections::BTreeSet;
 use tup_closure::above;
 use tup_graph::{Edits, GraphFault, Nodes};
 use tup_path::{Items, Path};
@@ -125,13 +124,14 @@ fn readers_of_new(
 {
     let mut found = Items::new(alloc);
     for (at, rule) in rules.iter().enumerate() {
-        push_if_new(&mut found, led, befores, at, rule)?;
+        push_if_new(alloc, &mut found, led, befores, at, rule)?;
     }
     Ok(found)
 }
 
 /// The rules whose records ask an output of the rule at a place, if that is new.
 fn push_if_new(
+    alloc: Global,
     found: &mut Items<u32>,
     led: &Indexed,
     befores: &[Option<u32>],
@@ -143,37 +143,45 @@ fn push_if_new(
     ensures memory { IfErr result (λ fault. fault ≡ GraphFault.Memory) }
 {
     if is_new(befores, at) {
-        return push_readers(found, led, rule.outputs.as_slice());
+        return push_readers(alloc, found, led, rule.outputs.as_slice());
     }
     Ok(())
 }
 
 /// The rules whose records ask one of some paths.
-fn push_readers(found: &mut Items<u32>, led: &Indexed, paths: &[Path]) -> Result<(), GraphFault>
+fn push_readers(
+    alloc: Global,
+    found: &mut Items<u32>,
+    led: &Indexed,
+    paths: &[Path],
+) -> Result<(), GraphFault>
     ensures readers { OnOk result (Grows (HasAskedOneOf led.now paths.now)
         (Contains found.old) (Contains found.new)) }
     ensures memory { IfErr result (λ fault. fault ≡ GraphFault.Memory) }
 {
     for path in paths {
-        push_readers_of(found, led, path)?;
+        push_readers_of(alloc, found, led, path)?;
     }
     Ok(())
 }
 
 /// The rules whose records ask a path.
-fn push_readers_of(found: &mut Items<u32>, led: &Indexed, path: &Path) -> Result<(), GraphFault>
+fn push_readers_of(
+    alloc: Global,
+    found: &mut Items<u32>,
+    led: &Indexed,
+    path: &Path,
+) -> Result<(), GraphFault>
     ensures readers { OnOk result (Grows (λ number. HasAsked led.now number path.now)
         (Contains found.old) (Contains found.new)) }
     ensures memory { IfErr result (λ fault. fault ≡ GraphFault.Memory) }
 {
-    match led.readers(path) {
-        Some(numbers) => push_set(found, numbers),
-        None => Ok(()),
-    }
+    let numbers = led.readers_of(alloc, path)?;
+    push_all(found, &numbers)
 }
 
-fn push_set(found: &mut Items<u32>, numbers: &BTreeSet<u32>) -> Result<(), GraphFault>
-    ensures ok { OnOk result (found.new ≡ found.old ++ numbers.now.keys) }
+fn push_all(found: &mut Items<u32>, numbers: &[u32]) -> Result<(), GraphFault>
+    ensures ok { OnOk result (found.new ≡ found.old ++ numbers.now) }
     ensures err { IfErr result (λ fault. fault ≡ GraphFault.Memory) }
 {
     for number in numbers {

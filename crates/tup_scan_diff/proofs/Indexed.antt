@@ -198,16 +198,14 @@ none_above path top = grows_nothing (λ d below. none_below_top d path top below
 not_the_top : (path dir : Names) (name : List ℕ) → path ≡ [] → path ≡ dir ++ name ∷ [] → ⊥
 not_the_top path dir name top is = none_below_top dir path top (below_its_folder dir path name is)
 
-module _ (path : Names) (old mid new : Index) (same_names : mid.names ≡ old.names) (same_tupfiles : mid.tupfiles ≡ old.tupfiles) (folders : Grows (λ d. IsBelow d path) (HasBelow old) (HasBelow mid)) where
-  pub adds_top : path ≡ [] → AddsFile path old mid
-  adds_top top = record {
-    names = subst (λ (l : Lists (List ℕ)). Grows (λ (place : Names × List ℕ). path ≡ place.0 ++ place.1 ∷ []) (IsListed old.names) (IsListed l)) (sym same_names)
-        (grows_nothing (λ place is. not_the_top path place.0 place.1 top is));
-    tupfiles = subst (λ (s : BTreeSet Names). Grows (λ dir. path ≡ tupfile dir) (HasTupfile old) (Has by_names s)) (sym same_tupfiles)
-        (grows_nothing (λ dir is. not_the_top path dir (codes "Tupfile") top is));
-    folders = folders;
-  }
+pub top_added : (path : Names) (index : Index) → path ≡ [] → AddsFile path index index
+top_added path index top = record {
+  names = grows_nothing (λ place is. not_the_top path place.0 place.1 top is);
+  tupfiles = grows_nothing (λ dir is. not_the_top path dir (codes "Tupfile") top is);
+  folders = none_above path top;
+}
 
+module _ (path : Names) (old mid new : Index) (same_names : mid.names ≡ old.names) (same_tupfiles : mid.tupfiles ≡ old.tupfiles) (folders : Grows (λ d. IsBelow d path) (HasBelow old) (HasBelow mid)) where
   module _ (dir : Names) (name : List ℕ) (is : path ≡ dir ++ name ∷ []) where
     place_to : (place : Names × List ℕ) → place ≡ (dir, name) → path ≡ place.0 ++ place.1 ∷ []
     place_to place e = is ∙ λ i. (sym e i).0 ++ (sym e i).1 ∷ []

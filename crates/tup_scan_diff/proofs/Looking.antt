@@ -19,9 +19,7 @@ use Rattle.tup_graph.specs.Kept.{Asked}
 use Rattle.tup_graph.specs.Scan.{IsTouched}
 use Rattle.tup_graph.specs.Transactions.{seen_so}
 use Rattle.tup_readers.specs.Index.{HasWritten}
-use Rattle.tup_readers.specs.Sets.{is_in}
 use Rattle.tup_readers.specs.Suspects.{HasAllOthers}
-use Rattle.tup_readers.proofs.Answering.{all_listed}
 use Rattle.tup_readers.proofs.Entries.{entry_found as number_found, found_entry as found_number, none_in}
 use Rattle.tup_readers.proofs.Keeping.{none_some, some_same}
 use Rattle.tup_closure.specs.Grows.{Grows}
@@ -38,9 +36,6 @@ use Rattle.tup_scan_diff.proofs.Ordered.{in_front, behind_front, front_or_behind
 -- a number has an entry
 abbrev pub HasEntry : List (ℕ × Unit {0}) → ℕ → Type 0
 HasEntry entries number = (flag : Unit {0}) × Contains entries (number, flag)
-
-set_members : (set : BTreeSet ℕ) (n : ℕ) → Contains set.keys n ↔ (is_in nat_cmp (Some set) n ≡ true)
-set_members set = all_listed nat_cmp nat_cmp_total nat_cmp-IsAntisymmetric set.keys (Some set) refl
 
 module _ (g : GraphState) where
   -- these were looked at
@@ -130,13 +125,6 @@ module _ (g : GraphState) where
 
   pub edits_taken : {A B : ℕ → Type 0} (h : GraphState) (edits : List Edit) (i : ℕ) → length edits ≤ i → Finds (UsesOneOf h (take i edits)) A B → Finds (UsesOneOf h edits) A B
   edits_taken {A} {B} h edits i whole = subst (λ (l : List Edit). Finds (UsesOneOf h l) A B) (take_all i edits whole)
-
-  -- a set, if there is one
-  pub set_looked : {A B : ℕ → Type 0} (found : Option (BTreeSet ℕ)) (set : BTreeSet ℕ) → found ≡ Some set → Finds (Contains set.keys) A B → Finds (λ n. is_in nat_cmp found n ≡ true) A B
-  set_looked found set is = looked_as (λ n. subst (λ (o : Option (BTreeSet ℕ)). Contains set.keys n ↔ (is_in nat_cmp o n ≡ true)) (sym is) (set_members set n))
-
-  pub no_set_looked : {A : ℕ → Type 0} (found : Option (BTreeSet ℕ)) → found ≡ None → Finds (λ n. is_in nat_cmp found n ≡ true) A A
-  no_set_looked found is = none_looked (λ n e. true≢false (sym e ∙ ap (λ (o : Option (BTreeSet ℕ)). is_in nat_cmp o n) is))
 
 -- ---- flags
 

@@ -1,5 +1,6 @@
 //! The sources by their folders.
-ghost use Rattle.std.specs.Prelude.{◌≡◌, IfOk, IfErr, OnOk, codes};
+ghost use Rattle.std.specs.Prelude.{◌≡◌, ◌++◌, ◌∷◌, [], ℕ, List, IfOk, IfErr, OnOk, codes};
+ghost use Rattle.tup_path.specs.Name.{Names};
 ghost use Rattle.tup_path.specs.Order.{by_names};
 ghost use Rattle.tup_path.specs.Tree.{IsBelow};
 ghost use Rattle.tup_closure.specs.Grows.{Grows};
@@ -73,10 +74,10 @@ impl Index {
         ensures added { OnOk result (AddsFile path.now self.old self.new) }
         ensures memory { IfErr result (λ fault. fault ≡ GraphFault.Memory) }
     {
-        add_above(alloc, &mut self.folders, path)?;
         let Some((dir, name)) = parted(alloc, path)? else {
             return Ok(());
         };
+        add_folder(alloc, &mut self.folders, &dir)?;
         self.add_name(alloc, dir, name)?;
         Ok(())
     }
@@ -97,6 +98,22 @@ impl Index {
         }
         Ok(())
     }
+}
+
+/// Adds a folder, and all folders above it. Where it is there, all are.
+fn add_folder(alloc: Global, folders: &mut BTreeSet<Path>, dir: &Path) -> Result<(), GraphFault>
+    requires { IsClosed folders.old }
+    ensures added { OnOk result ((path : Names) (name : List ℕ) → path ≡ dir.now ++ name ∷ []
+        → Grows (λ folder. IsBelow folder path)
+        (Has by_names folders.old) (Has by_names folders.new)) }
+    ensures memory { IfErr result (λ fault. fault ≡ GraphFault.Memory) }
+{
+    if folders.contains(dir) {
+        return Ok(());
+    }
+    add_above(alloc, folders, dir)?;
+    folders.insert(dir.clone()?)?;
+    Ok(())
 }
 
 /// Adds all folders above a path. Where its own folder is there, all are.

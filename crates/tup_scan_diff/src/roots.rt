@@ -11,7 +11,6 @@ ghost use Rattle.tup_scan_diff.specs.Edits.{seen_edits};
 ghost use Rattle.tup_scan_diff.specs.Present.{graph_of, stamps_in};
 ghost use Rattle.tup_scan_diff.specs.Touched.{FindsRoots, IsScanRoot, IsUserOf, SeesOtherwise, UsesOneOf};
 ghost use Rattle.tup_scan_diff.specs.Touched.{file_of as file_in, record_of as record_in};
-ghost use Rattle.tup_readers.specs.Sets.{is_in};
 ghost use Rattle.tup_path.specs.Name.{Names};
 
 use crate::present::Present;
@@ -61,7 +60,7 @@ impl Present<'_> {
         let mut roots = Items::new(alloc);
         self.push_flagged(&mut roots)?;
         self.push_set(&mut roots, graph.suspects())?;
-        self.push_users_of(&mut roots, graph, edits)?;
+        self.push_users_of(alloc, &mut roots, graph, edits)?;
         Ok(roots)
     }
 
@@ -80,6 +79,7 @@ impl Present<'_> {
     /// Adds the rules that use a path which one of some edits has seen otherwise, if they are flagged or touched.
     fn push_users_of(
         &self,
+        alloc: Global,
         roots: &mut Items<u32>,
         graph: &Indexed,
         edits: &[Edit],
@@ -89,7 +89,7 @@ impl Present<'_> {
         ensures memory { IfErr result (λ fault. fault ≡ GraphFault.Memory) }
     {
         for edit in edits {
-            self.push_users_at(roots, graph, edit)?;
+            self.push_users_at(alloc, roots, graph, edit)?;
         }
         Ok(())
     }
@@ -97,6 +97,7 @@ impl Present<'_> {
     /// Adds those that use a path which an edit has seen otherwise.
     fn push_users_at(
         &self,
+        alloc: Global,
         roots: &mut Items<u32>,
         graph: &Indexed,
         edit: &Edit,
@@ -107,7 +108,7 @@ impl Present<'_> {
         ensures memory { IfErr result (λ fault. fault ≡ GraphFault.Memory) }
     {
         match file_of(record_of(edit)) {
-            Some(path) => self.push_users(roots, graph, path),
+            Some(path) => self.push_users(alloc, roots, graph, path),
             None => Ok(()),
         }
     }
@@ -115,6 +116,7 @@ impl Present<'_> {
     /// Adds the rules whose records ask or wrote a path, if they are flagged or touched.
     fn push_users(
         &self,
+        alloc: Global,
         roots: &mut Items<u32>,
         graph: &Indexed,
         path: &Path,
@@ -123,25 +125,22 @@ impl Present<'_> {
             (IsUserOf graph.now path.now) roots.old roots.new) }
         ensures memory { IfErr result (λ fault. fault ≡ GraphFault.Memory) }
     {
-        self.push_found(roots, graph.readers(path))?;
-        self.push_found(roots, graph.writers(path))
+        let readers = graph.readers_of(alloc, path)?;
+        self.push_all(roots, &readers)?;
+        let writers = graph.writers_of(alloc, path)?;
+        self.push_all(roots, &writers)
     }
 
-    /// Adds the rules of a set, if there is one, that are flagged or touched.
-    fn push_found(
-        &self,
-        roots: &mut Items<u32>,
-        numbers: Option<&BTreeSet<u32>>,
-    ) -> Result<(), GraphFault>
+    /// Adds those of some rules that are flagged or touched.
+    fn push_all(&self, roots: &mut Items<u32>, numbers: &[u32]) -> Result<(), GraphFault>
         ensures roots { OnOk result (FindsRoots (graph_of self.now)
-            (λ number. is_in nat_cmp (option_copied numbers.entry) number ≡ true)
-            roots.old roots.new) }
+            (Contains numbers.now) roots.old roots.new) }
         ensures memory { IfErr result (λ fault. fault ≡ GraphFault.Memory) }
     {
-        match numbers {
-            Some(set) => self.push_set(roots, set),
-            None => Ok(()),
+        for number in numbers {
+            self.push_root(roots, *number)?;
         }
+        Ok(())
     }
 
     /// Adds the rules of a set that are flagged or touched.

@@ -4,10 +4,21 @@ ghost use Rattle.tup_closure.specs.Readers.{AreRunsOfRules};
 ghost use Rattle.tup_scan_diff.specs.Edits.{AreScanEdits};
 
 use crate::present::Present;
+use crate::stamps::sees_all;
 use std::alloc::Global;
 use tup_graph::{Edits, GraphFault};
 use tup_readers::Indexed;
 use tup_scan::Seen;
+
+/// Whether `note_scan` asks who uses a path: a file is seen otherwise, or a rule is flagged or may have been touched before.
+/// Then the maps of the graph had better be there.
+pub fn asks_for_users(graph: &Indexed, seen: &Seen) -> bool {
+    let mut flags = graph.nodes().flags();
+    if flags.next().is_some() || !graph.suspects().is_empty() {
+        return true;
+    }
+    !sees_all(graph.nodes(), seen.files.as_slice())
+}
 
 /// What taking note of a scan does to a graph: files are seen with the stamps that the scan found, and no others are;
 /// rules that recorded reads lead to from one that is flagged, or whose run asked (own outputs aside) or wrote another

@@ -75,6 +75,17 @@ fn edited(
     }
 }
 
+/// Whether a graph has seen just these files, in the same order, with these stamps.
+pub(crate) fn sees_all(nodes: &Nodes, files: &[(Path, Stamp)]) -> bool {
+    let mut left = nodes.files();
+    for (path, stamp) in files {
+        if seen_there(left.next(), path) != Some(*stamp) {
+            return false;
+        }
+    }
+    left.next().is_none()
+}
+
 /// The stamp of a file that was seen, if it is the one at this path.
 fn seen_there(seen: Option<(&Path, &Stamp)>, path: &Path) -> Option<Stamp>
     ensures { IfSome result (λ stamp. option_map deref_pair seen.entry ≡ Some (path.now, stamp)) }

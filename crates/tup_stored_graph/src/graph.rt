@@ -144,6 +144,14 @@ impl Graph {
         &self.nodes
     }
 
+    /// Makes the maps from paths to the rules whose records ask or wrote them, if they aren't made yet. Each edit makes them too.
+    pub fn know_users(&mut self, alloc: Global) -> Result<(), GraphFault>
+        ensures same { self.new ≡ self.old }
+        ensures memory { IfErr result (λ fault. fault ≡ GraphFault.Memory) }
+    {
+        self.nodes.know_users(alloc)
+    }
+
     /// The rules whose records ask a path, in ascending order.
     pub fn readers_of(&self, alloc: Global, path: &Path) -> Result<Vec<u32>, GraphFault>
         ensures readers { IfOk result (λ numbers. (number : ℕ)

@@ -1,9 +1,13 @@
 use Rattle.std.proofs.Common.{refl, subst}
 use Rattle.tup_scan_diff.specs.Index.{IsParted}
-use Rattle.tup_scan_diff.proofs.Indexed.{adds_file}
+use Rattle.tup_scan_diff.proofs.Indexed.{adds_file, top_added}
 use Rattle.tup_scan_diff.proofs.index.Index.add.Goals as goal
+
+pub returns-in_default-clause-added : goal.returns-in_default-clause-added
+returns-in_default-clause-added c = top_added c.args.path.now c.args.self.now (subst (IsParted c.args.path.now) c.in_default.is c.in_ok-dir.ensures.parted)
 
 pub returns-clause-added : goal.returns-clause-added
 returns-clause-added c =
-    adds_file c.args.path.now c.args.self.now (record c.args.self.now { folders = c.add_above.new.folders }) c.add_name.new.self refl refl c.in_ok-add_above.ensures.added c.in-Some.dir c.in-Some.name
-    (subst (IsParted c.args.path.now) c.in-Some.is c.in_ok-dir.ensures.parted) c.in_ok-add_name.ensures.folders c.in_ok-add_name.ensures.names c.in_ok-add_name.ensures.tupfiles
+    let parted = subst (IsParted c.args.path.now) c.in-Some.is c.in_ok-dir.ensures.parted in
+    adds_file c.args.path.now c.args.self.now (record c.args.self.now { folders = c.add_folder.new.folders }) c.add_name.new.self refl refl (c.in_ok-add_folder.ensures.added c.args.path.now c.in-Some.name parted) c.in-Some.dir c.in-Some.name
+    parted c.in_ok-add_name.ensures.folders c.in_ok-add_name.ensures.names c.in_ok-add_name.ensures.tupfiles
