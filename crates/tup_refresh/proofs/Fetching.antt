@@ -1,29 +1,21 @@
 -- The contents of sources that were asked for.
-use Rattle.std.proofs.Common.{◌≡◌, Bool, true, false, cond, not, ◌&&◌, ◌||◌, Some, None, is_some, IsSome, refl, sym, ap, ◌∙◌}
+use Rattle.std.proofs.Common.{◌≡◌, Bool, true, false, cond, not, ◌&&◌, List, Some, None, is_some, IsSome, refl, sym, ap, ◌∙◌}
 use Rattle.std.specs.BTreeSet.{contains}
-use Rattle.std.specs.Cmp.{eq_by_cmp_equiv}
 use Rattle.std.specs.FinMap as finite
+use Rattle.std.specs.List.{list_any}
 use Rattle.std.specs.Ordering.{eq_by_cmp}
 use Rattle.std.proofs.lemmas.Bool.{true≢false}
 use Rattle.tup_path.specs.Name.{Names, Content}
 use Rattle.tup_path.specs.Order.{by_names, by_names-total, same_path, same_path-by_names}
 use Rattle.tup_path.specs.Tree.{Tree}
 use Rattle.tup_path.proofs.Same.{same_path-decides}
+use Rattle.tup_rule.specs.Rule.{among}
 use Rattle.tup_refresh.specs.declared.fetched.Fetched.{Fetched}
 use Rattle.tup_refresh.specs.Part.{AreFetched}
 
--- a path that is added to some
-pub path_added : (path other : Names) (before : Bool) → cond (eq_by_cmp by_names path other) true before ≡ (before || same_path other path)
-path_added path other before = ap (λ b. cond b true before) test ∙ either (same_path other path) before
-  where
-    test : eq_by_cmp by_names path other ≡ same_path other path
-    test = (eq_by_cmp_equiv by_names-total).symm path other ∙ sym (same_path-by_names other path)
-
-    either : (b before : Bool) → cond b true before ≡ (before || b)
-    either true true = refl
-    either true false = refl
-    either false true = refl
-    either false false = refl
+-- the set of some paths has just these
+pub members : (path : Names) (paths : List Names) → list_any (eq_by_cmp by_names path) paths ≡ among path paths
+members path paths = ap (λ (test : Names → Bool). list_any test paths) (λ i other. sym (same_path-by_names path other) i)
 
 -- one that is missing no more, whose content is known
 module _ (sources : Tree) (old new : Fetched) (path : Names) (is : AreFetched sources old) (on : contains by_names old.missing path ≡ true)

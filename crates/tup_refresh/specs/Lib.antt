@@ -5,5 +5,6 @@ pub mod Walk
 pub mod Language
 pub mod Untouched
 pub mod Part
+pub mod Outline
 pub mod Asking
 pub mod Cause

@@ -1,13 +1,13 @@
 -- The sources of a project as far as they are known (own).
-use Rattle.std.specs.Prelude.{◌≡◌, Bool, true, false, not, ◌&&◌, ◌||◌, List, Option, Some, IsSome}
-use Rattle.std.specs.BTreeSet.{BTreeSet, contains}
+use Rattle.std.specs.Prelude.{◌≡◌, true, false, List, IsSome}
+use Rattle.std.specs.BTreeSet.{contains}
 use Rattle.std.specs.FinMap as finite
-use Rattle.tup_path.specs.Name.{Names, Content}
-use Rattle.tup_path.specs.Order.{by_names, same_path}
+use Rattle.tup_path.specs.Name.{Names}
+use Rattle.tup_path.specs.Order.{by_names}
 use Rattle.tup_path.specs.Tree.{Tree}
 use Rattle.tup_rule.specs.Rule.{among}
 use Rattle.tup_graph.specs.Answers.{tup_config}
-use Rattle.tup_graph.specs.Graph.{GraphState, is_owned}
+use Rattle.tup_graph.specs.Graph.{GraphState}
 use Rattle.tup_refresh.specs.declared.fetched.Fetched.{Fetched}
 use Rattle.tup_refresh.specs.declared.part.Part.{Part}
 use Rattle.tup_refresh.specs.Untouched.{SeesSources}
@@ -33,23 +33,6 @@ AreFilesOf tree sources = (path : Names) → IsSome (finite.get sources path) �
 pub record IsOutlined (sources outline : Tree) (g : GraphState) : Type 0 where
   pub paths : HasPaths sources outline
   pub stamps : SeesSources sources g
-
--- whether an entry of the files that a graph sees is that of a source at a path
-abbrev pub is_source_at : GraphState → Names → Names → Bool
-is_source_at g path seen = not (is_owned g seen) && same_path path seen
-
--- a path is added, unless the graph owns it
-abbrev pub AddsSource : GraphState → Names → Tree → Tree → Type 0
-AddsSource g path old new = (other : Names) → finite.contains_key new other ≡ (finite.contains_key old other || is_source_at g other path)
-
--- tup.config gets its content, where it is among them
-pub record AddsConfig (config : Option Content) (old new : Tree) : Type 0 where
-  pub paths : (path : Names) → finite.contains_key new path ≡ finite.contains_key old path
-  pub content : (content : Content) → config ≡ Some content → finite.contains_key old tup_config ≡ true → finite.get new tup_config ≡ Some content
-
--- a path is added to some
-abbrev pub AddsPath : Names → BTreeSet Names → BTreeSet Names → Type 0
-AddsPath path old new = (other : Names) → contains by_names new other ≡ (contains by_names old other || same_path other path)
 
 -- no content was asked for
 pub record IsUnfetched (paths : List Names) (fetched : Fetched) : Type 0 where

@@ -3,11 +3,13 @@ ghost use Rattle.std.specs.Prelude.{◌≡◌, ◌<◌, length, true, IsTrue, If
 ghost use Rattle.std.specs.BTreeSet.{contains};
 ghost use Rattle.std.specs.FinMap as finite;
 ghost use Rattle.std.specs.Map.{keys_of};
+ghost use Rattle.tup_path.specs.Name.{Names};
 ghost use Rattle.tup_path.specs.Order.{by_names};
 ghost use Rattle.tup_path.specs.Tree.{Tree};
 ghost use Rattle.tup_site.specs.Cause.{CountsFaults, NamesLength, OnlyLarge};
 ghost use Rattle.tup_site.specs.Crash.{GoesOn, NoStep};
-ghost use Rattle.tup_refresh.specs.Part.{AddsPath, AreFetched, IsUnfetched};
+ghost use Rattle.tup_rule.specs.Rule.{among};
+ghost use Rattle.tup_refresh.specs.Part.{AreFetched, IsUnfetched};
 
 use std::alloc::{AllocError, Global};
 use std::collections::BTreeSet;
@@ -28,10 +30,8 @@ impl Fetched {
     pub(crate) fn new(alloc: Global, files: &[(Path, Bytes)]) -> Result<Fetched, AllocError>
         ensures { IfOk result (IsUnfetched (keys_of files.now)) }
     {
-        let mut missing = BTreeSet::new(alloc);
-        for (path, _) in files {
-            add_path(&mut missing, path)?;
-        }
+        let paths = paths_of(alloc, files)?;
+        let missing = in_order(alloc, paths)?;
         Ok(Fetched {
             missing,
             contents: ByPath::new(alloc),
@@ -80,10 +80,21 @@ impl Fetched {
     }
 }
 
-/// Adds a path.
-fn add_path(paths: &mut BTreeSet<Path>, path: &Path) -> Result<(), AllocError>
-    ensures { OnOk result (AddsPath path.now paths.old paths.new) }
+/// The paths of files.
+fn paths_of(alloc: Global, files: &[(Path, Bytes)]) -> Result<Vec<Path>, AllocError>
+    ensures { IfOk result (λ paths. paths.items ≡ keys_of files.now) }
 {
-    paths.insert(path.clone()?)?;
-    Ok(())
+    let mut paths = Vec::new(alloc);
+    for (path, _) in files {
+        paths.push(path.clone()?)?;
+    }
+    Ok(paths)
+}
+
+/// The set of some paths. Where they come in order it takes two comparisons for each.
+fn in_order(alloc: Global, paths: Vec<Path>) -> Result<BTreeSet<Path>, AllocError>
+    ensures { IfOk result (λ set. (path : Names)
+        → contains by_names set path ≡ among path paths.items) }
+{
+    paths.into_iter().collect(alloc)
 }

@@ -1,66 +1,81 @@
 //! The sources that a graph sees.
-ghost use Rattle.std.specs.Prelude.{◌≡◌, IfOk, IsSome, OnOk};
+ghost use Rattle.std.specs.Prelude.{◌≡◌, ◌++◌, [], unwrap_or, IfOk, IsSome, IsTrue, OnOk};
 ghost use Rattle.std.specs.FinMap as finite;
+ghost use Rattle.tup_path.specs.Order.{by_names};
 ghost use Rattle.tup_path.specs.Tree.{Tree};
 ghost use Rattle.tup_graph.specs.Answers.{tup_config};
-ghost use Rattle.tup_refresh.specs.Part.{AddsConfig, AddsSource, HasConfig, HasPaths};
+ghost use Rattle.tup_refresh.specs.Outline.{content_in, source_in};
+ghost use Rattle.tup_refresh.specs.Part.{HasConfig, HasPaths};
 ghost use Rattle.tup_refresh.specs.Untouched.{SeesSources};
 
 use std::alloc::{AllocError, Global};
 use tup_graph::Nodes;
-use tup_path::{ByPath, Bytes, Path};
+use tup_path::{Bytes, Files, Path};
 
-/// The paths of the sources that a graph sees, and of their contents that of tup.config, which is
-/// given.
+/// The sources that a graph sees, in the order of their paths, and of their contents that of
+/// tup.config, which is given.
 pub(crate) fn outline(
     alloc: Global,
     nodes: &Nodes,
     config: &Option<Bytes>,
-) -> Result<ByPath<Bytes>, AllocError>
+) -> Result<Files, AllocError>
+    ensures sorted { IfOk result (λ files. IsTrue (finite.is_sorted by_names files)) }
     ensures paths { (sources : Tree) → SeesSources sources nodes.now
-        → IfOk result (HasPaths sources) }
+        → IfOk result (λ files. HasPaths sources (finite.from_sorted files)) }
     ensures config { (sources : Tree) → SeesSources sources nodes.now
         → (IsSome (finite.get sources tup_config)
-        → config.now ≡ finite.get sources tup_config) → IfOk result (HasConfig sources) }
+        → config.now ≡ finite.get sources tup_config)
+        → IfOk result (λ files. HasConfig sources (finite.from_sorted files)) }
 {
-    let mut outline = ByPath::new(alloc);
+    let top = config_path(alloc)?;
+    let mut files = Files::new(alloc);
     for (path, _) in nodes.files() {
-        add_source(alloc, nodes, &mut outline, path)?;
+        push_source(alloc, nodes, &mut files, &top, config, path)?;
     }
-    add_config(alloc, &mut outline, config)?;
-    Ok(outline)
+    Ok(files)
 }
 
 /// Adds a path, if it isn't owned.
-fn add_source(
+fn push_source(
     alloc: Global,
     nodes: &Nodes,
-    outline: &mut ByPath<Bytes>,
+    files: &mut Files,
+    top: &Path,
+    config: &Option<Bytes>,
     path: &Path,
 ) -> Result<(), AllocError>
-    ensures { OnOk result (AddsSource nodes.now path.now outline.old outline.new) }
+    ensures { OnOk result (files.new
+        ≡ files.old ++ source_in nodes.now top.now config.now path.now) }
 {
     if nodes.owner(path).is_none() {
-        outline.insert(path.clone()?, Bytes::new(Vec::new(alloc)))?;
+        let content = content_at(alloc, top, config, path)?;
+        files.push((path.clone()?, content))?;
     }
     Ok(())
 }
 
-/// Gives tup.config its content, where it is a source.
-fn add_config(
+/// The content of a source as far as it is given: that of tup.config alone.
+fn content_at(
     alloc: Global,
-    outline: &mut ByPath<Bytes>,
+    top: &Path,
     config: &Option<Bytes>,
-) -> Result<(), AllocError>
-    ensures { OnOk result (AddsConfig config.now outline.old outline.new) }
+    path: &Path,
+) -> Result<Bytes, AllocError>
+    ensures { IfOk result (λ content. content ≡ content_in top.now config.now path.now) }
 {
-    let path = config_path(alloc)?;
-    if !outline.contains(&path) {
-        return Ok(());
+    if *path == *top {
+        return content_of(alloc, config);
     }
+    Ok(Bytes::new(Vec::new(alloc)))
+}
+
+/// The content that is given, if one is.
+fn content_of(alloc: Global, config: &Option<Bytes>) -> Result<Bytes, AllocError>
+    ensures { IfOk result (λ content. content ≡ unwrap_or config.now []) }
+{
     match config {
-        Some(content) => Ok(outline.insert(path, content.clone()?)?),
-        None => Ok(()),
+        Some(content) => Ok(content.clone()?),
+        None => Ok(Bytes::new(Vec::new(alloc))),
     }
 }
 

@@ -57,8 +57,7 @@ pub fn refresh<S: Site>(
     ensures crash { IsTrue S.tells → GoesOn S.moment S.left_since site.old site.new NoStep }
     ensures known { IsTrue S.tells → S.known site.new ≡ S.known site.old }
 {
-    let outline = outline(alloc, nodes, config)?;
-    let files = outline.into_items(alloc)?;
+    let files = outline(alloc, nodes, config)?;
     let fetched = Fetched::new(alloc, files.as_slice())?;
     refresh_outlined(alloc, nodes, site, &files, fetched)
 }
