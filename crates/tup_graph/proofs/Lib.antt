@@ -15,3 +15,4 @@ pub mod OneWay
 pub mod Values
 pub mod Finishing
 pub mod Flagging
+pub mod Owning

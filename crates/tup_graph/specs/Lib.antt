@@ -11,3 +11,4 @@ pub mod Above
 pub mod Scan
 pub mod Swap
 pub mod Reach
+pub mod Owners

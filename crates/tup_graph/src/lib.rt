@@ -19,6 +19,7 @@ mod laws;
 mod nodes;
 mod opening;
 mod owned;
+mod owners;
 mod taking;
 
 pub use by_number::ByNumber;
@@ -32,3 +33,4 @@ pub use laws::{
 pub use nodes::Nodes;
 pub use opening::read_graph;
 pub use owned::Owned;
+pub use owners::Owners;

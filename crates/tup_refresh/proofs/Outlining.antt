@@ -48,25 +48,25 @@ module _ (g : GraphState) (top : Names) (config : Option Content) where
 
   low : (path : Names) (files : List (Names × Stamp)) → below_all by_names path files ≡ true → below_all by_names path (out files) ≡ true
   low path [] below = refl
-  low path (file ∷ files) below = by (is_owned g file.0)
+  low path (file ∷ files) below = by (is_owned g file.0) (low path files parts.1)
     where
       parts : (is_lt (by_names path file.0) ≡ true) × (below_all by_names path files ≡ true)
       parts = and_parts (is_lt (by_names path file.0)) (below_all by_names path files) below
 
-      by : (b : Bool) → below_all by_names path (cond b [] ((file.0, content_in top config file.0) ∷ []) ++ out files) ≡ true
-      by true = low path files parts.1
-      by false = and_from (is_lt (by_names path file.0)) (below_all by_names path (out files)) parts.0 (low path files parts.1)
+      by : (b : Bool) → below_all by_names path (out files) ≡ true → below_all by_names path (cond b [] ((file.0, content_in top config file.0) ∷ []) ++ out files) ≡ true
+      by true more = more
+      by false more = and_from (is_lt (by_names path file.0)) (below_all by_names path (out files)) parts.0 more
 
   rises : (files : List (Names × Stamp)) → finite.is_sorted by_names files ≡ true → finite.is_sorted by_names (out files) ≡ true
   rises [] up = refl
-  rises (file ∷ files) up = by (is_owned g file.0)
+  rises (file ∷ files) up = by (is_owned g file.0) (rises files parts.1)
     where
       parts : (below_all by_names file.0 files ≡ true) × (finite.is_sorted by_names files ≡ true)
       parts = and_parts (below_all by_names file.0 files) (finite.is_sorted by_names files) up
 
-      by : (b : Bool) → finite.is_sorted by_names (cond b [] ((file.0, content_in top config file.0) ∷ []) ++ out files) ≡ true
-      by true = rises files parts.1
-      by false = and_from (below_all by_names file.0 (out files)) (finite.is_sorted by_names (out files)) (low file.0 files parts.0) (rises files parts.1)
+      by : (b : Bool) → finite.is_sorted by_names (out files) ≡ true → finite.is_sorted by_names (cond b [] ((file.0, content_in top config file.0) ∷ []) ++ out files) ≡ true
+      by true more = more
+      by false more = and_from (below_all by_names file.0 (out files)) (finite.is_sorted by_names (out files)) (low file.0 files parts.0) more
 
   -- ---- what is found at a path
 
@@ -82,7 +82,7 @@ module _ (g : GraphState) (top : Names) (config : Option Content) where
   found path (file ∷ files) =
       (elim (is_owned g file.0) as (λ b. is_owned g file.0 ≡ b → finite.find by_names path (cond b [] ((file.0, content_in top config file.0) ∷ []) ++ out files) ≡ known path (cond (eq_by_cmp by_names path file.0) (Some file.1) (finite.find by_names path files))) [
         | true ↦ λ owned. found path files ∙ passed owned (eq_by_cmp by_names path file.0) refl
-        | false ↦ λ unowned. met unowned (eq_by_cmp by_names path file.0) refl
+        | false ↦ λ unowned. met unowned (eq_by_cmp by_names path file.0) refl (found path files)
       ]) refl
     where
       same : eq_by_cmp by_names path file.0 ≡ true → path ≡ file.0
@@ -95,11 +95,11 @@ module _ (g : GraphState) (top : Names) (config : Option Content) where
           ∙ sym (ap (λ b. cond b None (Some (content_in top config path))) is)
       passed owned false apart = refl
 
-      met : is_owned g file.0 ≡ false → (t : Bool) → eq_by_cmp by_names path file.0 ≡ t
+      met : is_owned g file.0 ≡ false → (t : Bool) → eq_by_cmp by_names path file.0 ≡ t → finite.find by_names path (out files) ≡ known path (finite.find by_names path files)
           → cond t (Some (content_in top config file.0)) (finite.find by_names path (out files)) ≡ known path (cond t (Some file.1) (finite.find by_names path files))
-      met unowned true tied =
+      met unowned true tied more =
           ap (λ p. Some (content_in top config p)) (sym (same tied)) ∙ sym (ap (λ b. cond b None (Some (content_in top config path))) (ap (is_owned g) (same tied) ∙ unowned))
-      met unowned false apart = found path files
+      met unowned false apart more = more
 
 -- ---- all files that a graph sees
 

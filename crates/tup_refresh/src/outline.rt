@@ -4,12 +4,12 @@ ghost use Rattle.std.specs.FinMap as finite;
 ghost use Rattle.tup_path.specs.Order.{by_names};
 ghost use Rattle.tup_path.specs.Tree.{Tree};
 ghost use Rattle.tup_graph.specs.Answers.{tup_config};
-ghost use Rattle.tup_refresh.specs.Outline.{content_in, source_in};
+ghost use Rattle.tup_refresh.specs.Outline.{content_in, outline_of, source_in};
 ghost use Rattle.tup_refresh.specs.Part.{HasConfig, HasPaths};
 ghost use Rattle.tup_refresh.specs.Untouched.{SeesSources};
 
 use std::alloc::{AllocError, Global};
-use tup_graph::Nodes;
+use tup_graph::{Nodes, Owners};
 use tup_path::{Bytes, Files, Path};
 
 /// The sources that a graph sees, in the order of their paths, and of their contents that of
@@ -28,9 +28,23 @@ pub(crate) fn outline(
         → IfOk result (λ files. HasConfig sources (finite.from_sorted files)) }
 {
     let top = config_path(alloc)?;
+    sources_seen(alloc, nodes, &top, config)
+}
+
+/// The same sources, where tup.config stands at this path.
+fn sources_seen(
+    alloc: Global,
+    nodes: &Nodes,
+    top: &Path,
+    config: &Option<Bytes>,
+) -> Result<Files, AllocError>
+    ensures { IfOk result (λ files. files
+        ≡ outline_of nodes.now top.now config.now (finite.entries nodes.now.seen)) }
+{
+    let mut owners = nodes.owners();
     let mut files = Files::new(alloc);
     for (path, _) in nodes.files() {
-        push_source(alloc, nodes, &mut files, &top, config, path)?;
+        push_source(alloc, &mut owners, &mut files, top, config, path)?;
     }
     Ok(files)
 }
@@ -38,16 +52,17 @@ pub(crate) fn outline(
 /// Adds a path, if it isn't owned.
 fn push_source(
     alloc: Global,
-    nodes: &Nodes,
+    owners: &mut Owners<'_>,
     files: &mut Files,
     top: &Path,
     config: &Option<Bytes>,
     path: &Path,
 ) -> Result<(), AllocError>
-    ensures { OnOk result (files.new
-        ≡ files.old ++ source_in nodes.now top.now config.now path.now) }
+    ensures files { OnOk result (files.new
+        ≡ files.old ++ source_in owners.old top.now config.now path.now) }
+    ensures same { owners.new ≡ owners.old }
 {
-    if nodes.owner(path).is_none() {
+    if !owners.owns(path) {
         let content = content_at(alloc, top, config, path)?;
         files.push((path.clone()?, content))?;
     }

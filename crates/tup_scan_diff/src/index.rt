@@ -12,7 +12,7 @@ ghost use Rattle.tup_scan_diff.specs.Index.{AddsFile, HasBelow, HasTupfile, IsAd
 use std::alloc::Global;
 use std::collections::BTreeSet;
 use tup_closure::Lists;
-use tup_graph::{GraphFault, Nodes};
+use tup_graph::{GraphFault, Nodes, Owners};
 use tup_path::{Path, Text};
 use tup_stamp::Stamp;
 
@@ -37,9 +37,10 @@ impl Index {
         ensures index { IfOk result (IsIndexOf (IsSourceAmong nodes.now files.now)) }
         ensures memory { IfErr result (λ fault. fault ≡ GraphFault.Memory) }
     {
+        let mut owners = nodes.owners();
         let mut index = Index::empty(alloc);
         for (path, _) in files {
-            index.add_source(alloc, nodes, path)?;
+            index.add_source(alloc, &mut owners, path)?;
         }
         Ok(index)
     }
@@ -56,16 +57,22 @@ impl Index {
     }
 
     /// Adds a file, if it is a source.
-    fn add_source(&mut self, alloc: Global, nodes: &Nodes, path: &Path) -> Result<(), GraphFault>
+    fn add_source(
+        &mut self,
+        alloc: Global,
+        owners: &mut Owners<'_>,
+        path: &Path,
+    ) -> Result<(), GraphFault>
         requires { IsClosed self.old.folders }
-        ensures added { OnOk result (IsAddedIf (is_owned nodes.now path.now) path.now
+        ensures added { OnOk result (IsAddedIf (is_owned owners.old path.now) path.now
             self.old self.new) }
+        ensures same { owners.new ≡ owners.old }
         ensures memory { IfErr result (λ fault. fault ≡ GraphFault.Memory) }
     {
-        match nodes.owner(path) {
-            Some(_) => Ok(()),
-            None => self.add(alloc, path),
+        if owners.owns(path) {
+            return Ok(());
         }
+        self.add(alloc, path)
     }
 
     /// Adds a file.

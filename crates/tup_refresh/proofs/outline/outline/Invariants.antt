@@ -1,7 +1,0 @@
-use Rattle.std.proofs.Common.{◌≡◌, map}
-use Rattle.std.specs.Map.Iter.{deref_pair}
-use Rattle.tup_refresh.specs.Outline.{outline_of}
-use Rattle.tup_refresh.proofs.outline.outline.Given as goal
-
-abbrev pub invariant-loop-path : goal.invariant-loop-path
-invariant-loop-path l = l.files ≡ outline_of l.nodes l.top l.config (map deref_pair l.yielded)
