@@ -139,7 +139,7 @@ begin 'a program that is not there' ': a |> x a b |> b' ': a |> x a c |> c'
 rm -f "$work/program"
 call 8 20 -j 2
 last 'fault: the runner failed'
-grep -q "^tup: $work/program: the program couldn't be started$" ../said || wrong "it says $(cat ../said)"
+[ "$(cat ../said)" = "tup: $work/program: the program couldn't be started" ] || wrong "it says $(cat ../said)"
 
 begin 'a killed update' $(for i in $(seq 8); do printf ':_a_|>_x_a_b%s_|>_b%s\n' $i $i; done)
 sed -i 's/_/ /g' Tupfile

@@ -33,6 +33,7 @@ use std::{io, process};
 use top::Top;
 use tup_fs::{FsSite, Syncs};
 use tup_path::Text;
+use tup_proc_runner::ProcRunner;
 use tup_progress::{Manner, Progress, Started};
 use tup_runner::Runner;
 use tup_tell::LineReporter;
@@ -467,13 +468,22 @@ fn run_through<W: Threads + Wait + Sync>(
         return told(&rt, Status::Memory);
     };
     let (status, runners) = run(rt, crews, alloc, call, Some(&seats), runners);
-    for runner in &runners {
+    tell_faults(rt, program, &runners);
+    status.exit()
+}
+
+/// Prints why the runners of a program failed. What is to be said of several, one after another, is printed once.
+fn tell_faults(rt: HostRuntime, program: &Text, runners: &[ProcRunner<HostRuntime>]) {
+    let mut before = None;
+    for runner in runners {
         if let Some(fault) = runner.last() {
-            // Words that can't be printed change nothing: the exit number tells as much.
-            drop(eprintln!(rt; "tup: {program}: {fault}"));
+            if before != Some(fault) {
+                // Words that can't be printed change nothing: the exit number tells as much.
+                drop(eprintln!(rt; "tup: {program}: {fault}"));
+            }
+            before = Some(fault);
         }
     }
-    status.exit()
 }
 
 /// The exit number of a text that was to be printed.

@@ -8,7 +8,7 @@ use thiserror::Error;
 use tup_path::Text;
 
 /// Why a started program gave no run.
-#[derive(Debug, Drop, Error)]
+#[derive(Debug, PartialEq, Eq, Drop, Error)]
 pub enum ProcFault {
     /// The program couldn't be started or waited for.
     #[error("the program couldn't be started")]
