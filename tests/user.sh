@@ -426,7 +426,7 @@ fi
 # A command that is none of the small ones.
 unknown() {
     project ": a |> $1 |> b"
-    row "$1" 1 "read .;bad .: $1;fault: .: $1: status 127;" "${2:+tup: no such small command: $2; \`--proc tup_sh\` runs shell commands;}"
+    row "$1" 1 "read .;bad .: $1;fault: .: $1: status 127;" "${2:+tup: no such built-in command: $2; \`--proc tup_sh\` runs shell commands;}"
 }
 unknown 'cc -c a -o b' cc
 unknown 'cp a b && ./b' ./b
@@ -434,7 +434,7 @@ unknown 'cp a b && fail 127 && cc a' ''
 unknown 'fail 127' ''
 row "where files are compared" 1 'fault: .: fail 127: status 127;' '' verify
 project ': a |> cc a |> b'
-row "it is compared" 1 'fault: .: cc a: status 127;' 'tup: no such small command: cc; `tup verify` runs no others;' verify
+row "it is compared" 1 'fault: .: cc a: status 127;' 'tup: no such built-in command: cc; `tup verify` runs no others;' verify
 project ': a |> cp a |> b'
 row "a small command that is wrong" 1 'read .;bad .: cp a;fault: .: cp a: status 2;' ''
 

@@ -56,7 +56,7 @@ fn is_early(rt: HostRuntime, store: &str) -> bool {
     matches!(file.read_exact_at(&mut first, 0), Ok(())) && first == EARLY
 }
 
-/// What is to be done where a command isn't one of the small commands. The words say what runs
+/// What is to be done where a command isn't one of the built-in commands. The words say what runs
 /// others.
 pub(crate) fn name_program(rt: HostRuntime, alloc: Global, status: &Status, other: &str) {
     if let Status::Command {
@@ -66,7 +66,7 @@ pub(crate) fn name_program(rt: HostRuntime, alloc: Global, status: &Status, othe
     {
         if let Ok(Some(word)) = unknown_word(alloc, &rule.text) {
             // Words that can't be printed change nothing: the exit number tells as much.
-            drop(eprintln!(rt; "tup: no such small command: {word}; {other}"));
+            drop(eprintln!(rt; "tup: no such built-in command: {word}; {other}"));
         }
     }
 }
