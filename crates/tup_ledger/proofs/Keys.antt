@@ -1,5 +1,5 @@
 -- The paths that a graph owns, as lists in their order.
-use Rattle.std.proofs.Common.{◌≡◌, ◌||◌, ◌&&◌, not, ◌++◌, Bool, true, false, cond, T, is_some, List, [], ◌∷◌, map, filter, All, refl, sym, ap, ◌∙◌}
+use Rattle.std.proofs.Common.{◌≡◌, ◌||◌, ◌&&◌, not, ◌++◌, Bool, true, false, cond, T, is_some, List, [], ◌∷◌, map, filter, All, refl, sym, ap, subst, ◌∙◌}
 use Rattle.std.specs.FinMap as finite
 use Rattle.std.specs.FinMap.Entries.{below_all}
 use Rattle.std.specs.List.{list_any}
@@ -7,7 +7,8 @@ use Rattle.std.specs.Ordering.{is_lt}
 use Rattle.std.specs.declared.cmp.Ordering.{Ordering}
 use Rattle.std.specs.declared.cmp.Ordering.TheVariants.{Less, Equal, Greater}
 use Rattle.std.proofs.lemmas.Bool.{and_parts, false≢true}
-use Rattle.std.proofs.lemmas.List.Elements.{All-nil, All-cons, All-filter}
+use Rattle.std.proofs.lemmas.List.{map-id}
+use Rattle.std.proofs.lemmas.List.Elements.{All-nil, All-cons, All-head, All-tail}
 use Rattle.std.proofs.lemmas.List.Folds.{list_any-append}
 use Rattle.tup_path.specs.Name.{Names}
 use Rattle.tup_path.specs.Order.{by_names, same_path, same_path-by_names}
@@ -17,7 +18,7 @@ use Rattle.tup_rule.proofs.Laws.{among-decides}
 use Rattle.tup_graph.specs.Graph.{GraphState}
 use Rattle.tup_graph.specs.Transactions.{with_forgotten}
 use Rattle.tup_ledger.specs.Ascending.{IsAscending, ascending}
-use Rattle.tup_ledger.specs.Members.{ascending-IsAscending, ascending_has, ascending_has_only, same_members}
+use Rattle.tup_ledger.specs.Members.{Before, ascending-IsAscending, ascending_has, ascending_has_only, same_members}
 use Rattle.tup_ledger.specs.Owned.{owned_in, with_owned}
 use Rattle.tup_ledger.proofs.Trees.{owned_more, owned_less}
 
@@ -30,13 +31,13 @@ module _ {X : Type 0} where
   abbrev keys_in : List (Names × X) → List Names
   keys_in es = map (λ (e : Names × X). e.0) es
 
-  all_later : (path : Names) (es : List (Names × X)) → below_all by_names path es ≡ true → All (λ later. by_names path later ≡ Less) (keys_in es)
-  all_later path [] below = All-nil (λ later. by_names path later ≡ Less)
+  all_later : (path : Names) (es : List (Names × X)) → below_all by_names path es ≡ true → All (Before path) (keys_in es)
+  all_later path [] below = All-nil (Before path)
   all_later path (e ∷ es) below =
       let parts = and_parts (is_lt (by_names path e.0)) (below_all by_names path es) below in
-      All-cons (λ later. by_names path later ≡ Less) e.0 (keys_in es) (less_is (by_names path e.0) parts.0) (all_later path es parts.1)
+      All-cons (Before path) e.0 (keys_in es) (less_is (by_names path e.0) parts.0) (all_later path es parts.1)
 
-  sorted_ascend : (es : List (Names × X)) → finite.is_sorted by_names es ≡ true → IsAscending (keys_in es)
+  pub sorted_ascend : (es : List (Names × X)) → finite.is_sorted by_names es ≡ true → IsAscending (keys_in es)
   sorted_ascend [] up = tt
   sorted_ascend (e ∷ es) up =
       let parts = and_parts (below_all by_names e.0 es) (finite.is_sorted by_names es) up in
@@ -84,16 +85,33 @@ owned_with g paths =
     turned false true = refl
     turned false false = refl
 
--- ---- paths that pass a test
-module _ (test : Names → Bool) where
-  filtered_ascend : (paths : List Names) → IsAscending paths → IsAscending (filter test paths)
-  filtered_ascend [] up = tt
-  filtered_ascend (path ∷ paths) up =
-      elim (test path) as (λ passes. IsAscending (cond passes (path ∷ filter test paths) (filter test paths))) [
-        | true ↦ (All-filter test (λ later. by_names path later ≡ Less) paths up.0, filtered_ascend paths up.1)
-        | false ↦ filtered_ascend paths up.1
+-- ---- items that pass a test: their paths ascend as those of all items do
+module _ {X : Type 0} (path_of : X → Names) (test : X → Bool) where
+  abbrev paths_of : List X → List Names
+  paths_of items = map path_of items
+
+  passing_below : (path : Names) (items : List X) → All (Before path) (paths_of items) → All (Before path) (paths_of (filter test items))
+  passing_below path [] below = below
+  passing_below path (item ∷ items) below =
+      let rest = passing_below path items (All-tail (Before path) (path_of item) (paths_of items) below) in
+      elim (test item) as (λ passes. All (Before path) (paths_of (cond passes (item ∷ filter test items) (filter test items)))) [
+        | true ↦ All-cons (Before path) (path_of item) (paths_of (filter test items)) (All-head (Before path) (path_of item) (paths_of items) below) rest
+        | false ↦ rest
       ]
 
+  pub passing_ascend : (items : List X) → IsAscending (paths_of items) → IsAscending (paths_of (filter test items))
+  passing_ascend [] up = tt
+  passing_ascend (item ∷ items) up =
+      elim (test item) as (λ passes. IsAscending (paths_of (cond passes (item ∷ filter test items) (filter test items)))) [
+        | true ↦ (passing_below (path_of item) items up.0, passing_ascend items up.1)
+        | false ↦ passing_ascend items up.1
+      ]
+
+pub filtered_ascend : (test : Names → Bool) (paths : List Names) → IsAscending paths → IsAscending (filter test paths)
+filtered_ascend test paths up = subst IsAscending (map-id (filter test paths)) (passing_ascend (λ (path : Names). path) test paths (subst IsAscending (sym (map-id paths)) up))
+
+-- ---- paths that pass a test
+module _ (test : Names → Bool) where
   none_among : (path : Names) → (test path && false) ≡ false
   none_among path = elim (test path) as (λ passes. (passes && false) ≡ false) [ true ↦ refl | false ↦ refl ]
 

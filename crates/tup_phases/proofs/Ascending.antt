@@ -1,42 +1,16 @@
 -- The paths that no rule makes any more are in the order of paths.
-use Rattle.std.proofs.Common.{◌≡◌, ◌⊎◌, inl, inr, ℕ, zero, suc, Bool, true, false, cond, List, [], ◌∷◌, map, filter, take, All, Some, Contains, sym, subst}
+use Rattle.std.proofs.Common.{◌≡◌, ◌⊎◌, inl, inr, ℕ, zero, suc, List, [], ◌∷◌, take, Some, Contains, sym, subst}
 use Rattle.std.specs.FinMap as finite
 use Rattle.std.specs.List.{slice_get}
-use Rattle.std.proofs.lemmas.List.{map-id}
-use Rattle.std.proofs.lemmas.List.Elements.{All-cons, All-contains, All-head, All-tail}
+use Rattle.std.proofs.lemmas.List.Elements.{All-contains}
 use Rattle.std.proofs.lemmas.Option.{none-some, same_Some}
 use Rattle.tup_path.specs.Name.{Names}
 use Rattle.tup_graph.specs.declared.owned.Owned.{Owned}
 use Rattle.tup_graph.specs.Graph.{GraphState}
 use Rattle.tup_ledger.specs.Ascending.{IsAscending}
 use Rattle.tup_ledger.specs.Members.{Before, first_member, later_member, member_cases, not_before_itself, not_both_before}
-use Rattle.tup_ledger.proofs.Keys.{owned_ascends}
+use Rattle.tup_ledger.proofs.Keys.{owned_ascends, passing_ascend}
 use Rattle.tup_stale.specs.Unmade.{lacks_maker, unmade}
-
--- the keys of items that pass a test ascend as those of all items do
-module _ {X : Type 0} (key : X → Names) (test : X → Bool) where
-  abbrev keys_of : List X → List Names
-  keys_of items = map key items
-
-  passing_below : (path : Names) (items : List X) → All (Before path) (keys_of items) → All (Before path) (keys_of (filter test items))
-  passing_below path [] below = below
-  passing_below path (item ∷ items) below =
-      let rest = passing_below path items (All-tail (Before path) (key item) (keys_of items) below) in
-      elim (test item) as (λ passes. All (Before path) (keys_of (cond passes (item ∷ filter test items) (filter test items)))) [
-        | true ↦ All-cons (Before path) (key item) (keys_of (filter test items)) (All-head (Before path) (key item) (keys_of items) below) rest
-        | false ↦ rest
-      ]
-
-  passing_ascend : (items : List X) → IsAscending (keys_of items) → IsAscending (keys_of (filter test items))
-  passing_ascend [] up = tt
-  passing_ascend (item ∷ items) up =
-      elim (test item) as (λ passes. IsAscending (keys_of (cond passes (item ∷ filter test items) (filter test items)))) [
-        | true ↦ (passing_below (key item) items up.0, passing_ascend items up.1)
-        | false ↦ passing_ascend items up.1
-      ]
-
-pub filtered_ascend : (test : Names → Bool) (paths : List Names) → IsAscending paths → IsAscending (filter test paths)
-filtered_ascend test paths up = subst IsAscending (map-id (filter test paths)) (passing_ascend (λ (path : Names). path) test paths (subst IsAscending (sym (map-id paths)) up))
 
 pub unmade_ascends : (g : GraphState) → IsAscending (unmade g)
 unmade_ascends g = passing_ascend (λ (entry : Names × Owned). entry.0) lacks_maker (finite.entries g.owned) (owned_ascends g)

@@ -10,6 +10,7 @@ use Rattle.tup_rule.specs.declared.rule.Rule.{Rule}
 use Rattle.tup_rule.proofs.Laws.{among-decides}
 use Rattle.tup_graph.specs.declared.owned.Owned.{Owned}
 use Rattle.tup_graph.specs.Graph.{GraphState, is_owned}
+use Rattle.tup_ledger.proofs.Keys.{filtered_ascend}
 use Rattle.tup_scan_diff.proofs.Editing.{filter_in, in_filter}
 use Rattle.tup_law_site.proofs.Stores.{one_in_bytes}
 use Rattle.tup_law_board.proofs.Unmade.{unmade_at}
@@ -18,7 +19,7 @@ use Rattle.tup_promise.specs.Did.{IsToRemove, RemovesWhatIsUnmade}
 use Rattle.tup_promise.specs.States.{StateStays}
 use Rattle.tup_promise.proofs.Asked.{one_asked}
 use Rattle.tup_phases.specs.Kept.{IsBrought}
-use Rattle.tup_phases.proofs.Ascending.{filtered_ascend, unmade_ascends}
+use Rattle.tup_phases.proofs.Ascending.{unmade_ascends}
 use Rattle.tup_phases.proofs.Users.{is_unmade}
 
 -- what is there has a value

@@ -14,11 +14,10 @@ use Rattle.tup_vars.specs.declared.fault.ConfigFault.{ConfigFault}
 use Rattle.tup_readings.specs.Sources.{settings_of}
 use Rattle.tup_graph.specs.Graph.{GraphState}
 use Rattle.tup_ledger.specs.Sources.{sources_of}
-use Rattle.tup_ledger.proofs.Keys.{among_keys}
+use Rattle.tup_ledger.proofs.Keys.{among_keys, sorted_ascend}
 use Rattle.tup_refresh.specs.Refresh.{AreRefreshed, IsRefresh, IsRefreshWith}
 use Rattle.tup_refresh.specs.declared.refreshed.Refreshed.{Refreshed}
 use Rattle.tup_promise.specs.Did.{HasNoted, ReadsWhatIsDue}
-use Rattle.tup_promise.proofs.Ascending.{keys_ascend}
 
 -- the folders of some readings
 abbrev pub folders_of : List (Names × Reading) → List Names
@@ -53,7 +52,7 @@ module _ (w : World) (g : GraphState) (found : Refreshed) (noted : HasNoted w g)
         config = is;
         readings = found.all;
         are = are.read;
-        ascend = keys_ascend found.fresh are.sorted;
+        ascend = sorted_ascend found.fresh are.sorted;
         just = λ dir. (λ has. (are.due dir).0 (has_folder found.fresh are.sorted dir has), λ due. folder_there found.fresh are.sorted dir ((are.due dir).1 due));
       }
 
