@@ -1,7 +1,7 @@
 //! What the calls of a board answer.
 use tup_access::Verdict;
 use tup_core::Cause;
-use tup_path::Bytes;
+use tup_runner::Stamped;
 use tup_schedule::Events;
 use tup_site::Site;
 use tup_stored_graph::Graph;
@@ -10,7 +10,7 @@ use tup_stored_graph::Graph;
 #[derive(Drop)]
 pub enum Asked {
     /// What stands there.
-    Content(Bytes),
+    Content(Stamped),
     /// Nothing stands there, or it is an output of the command's own rule.
     Absent,
     /// It may not ask for it, and this becomes of it.

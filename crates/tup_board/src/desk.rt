@@ -21,7 +21,7 @@ use tup_core::{Cause, Plan};
 use tup_path::{Bytes, Path, Text};
 use tup_rule::Rule;
 use tup_rule_outputs::{BoardFault, Reads};
-use tup_runner::Runner;
+use tup_runner::{Runner, Stamped};
 use tup_schedule::Course;
 use tup_site::Site;
 use tup_stamp::{Stamp, stamp_of};
@@ -288,7 +288,7 @@ impl<S: Site, R: Runner> Desk for Board<S, R> {
         stamp: Option<Stamp>,
     ) -> Result<Asked, BoardFault> {
         self.course.ask(alloc, plan, seat, text, stamp)?;
-        Ok(told(found))
+        Ok(told(found, stamp))
     }
 
     fn fail(&mut self, plan: &Plan, seat: u32, fault: BoardFault) -> BoardFault {
@@ -333,12 +333,14 @@ fn same_stamp(one: &Option<Stamp>, other: &Option<Stamp>) -> bool
     one == other
 }
 
-/// What a command is told of what was found.
-fn told(found: Option<Bytes>) -> Asked
+/// What a command is told of what was found. A content is told with its stamp.
+fn told(found: Option<Bytes>, stamp: Option<Stamp>) -> Asked
+    requires { stamp ≡ option_map stamp_of_content found }
     ensures { result ≡ told_of found }
 {
-    match found {
-        Some(content) => Asked::Content(content),
-        None => Asked::Absent,
+    match (found, stamp) {
+        (Some(content), Some(stamp)) => Asked::Content(Stamped::known(content, stamp)),
+        (Some(_), None) => unreachable!(),
+        (None, _) => Asked::Absent,
     }
 }

@@ -15,7 +15,7 @@ use tup_mini::Mini;
 use tup_path::{Items, Text};
 use tup_rule::Rule;
 use tup_runner::{Answer, Report};
-use tup_stamp::{Stamp, stamp_of};
+use tup_stamp::Stamp;
 
 /// The rule that a seat runs.
 pub(crate) fn rule_of<'p>(board: &MemBoard, plan: &'p Plan, seat: u32) -> Option<&'p Rule>
@@ -66,7 +66,7 @@ fn stamp_in(answer: &Answer) -> Option<Stamp>
     ensures { IsStampOf result answer.now }
 {
     match answer {
-        Answer::Content(content) => Some(stamp_of(content.as_slice())),
+        Answer::Content(content) => Some(content.stamp()),
         Answer::Absent => None,
     }
 }

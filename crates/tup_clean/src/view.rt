@@ -12,7 +12,7 @@ use std::collections::BTreeSet;
 use tup_access::{Access, Verdict, allowed};
 use tup_path::{Path, Text};
 use tup_rule::Rule;
-use tup_runner::{Answer, View, ViewFailed};
+use tup_runner::{Answer, Stamped, View, ViewFailed};
 
 /// A rule among those of its project, and the files over which it is run.
 #[derive(Drop)]
@@ -46,7 +46,7 @@ impl FileView<'_> {
             return Ok(Answer::Absent);
         }
         match self.sight.tree.get(path) {
-            Some(content) => Ok(Answer::Content(content.clone()?)),
+            Some(content) => Ok(Answer::Content(Stamped::new(content.clone()?))),
             None => Ok(Answer::Absent),
         }
     }

@@ -5,7 +5,7 @@ use tup_mini::Mini;
 use tup_path::{Bytes, Items, Text};
 use tup_rows::RowFault;
 use tup_rule::Rule;
-use tup_runner::{Answer, RunFailed, Runner, Step};
+use tup_runner::{Answer, RunFailed, Runner, Stamped, Step};
 
 /// A rule that a seat runs, and what its command was answered so far.
 #[derive(Drop)]
@@ -57,7 +57,7 @@ impl Job {
 /// The answer that a content is, or that there is none.
 fn answer(content: Option<&Bytes>) -> Result<Answer, AllocError> {
     match content {
-        Some(content) => Ok(Answer::Content(content.clone()?)),
+        Some(content) => Ok(Answer::Content(Stamped::new(content.clone()?))),
         None => Ok(Answer::Absent),
     }
 }

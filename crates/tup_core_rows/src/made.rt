@@ -4,7 +4,7 @@ use crate::values::{content, text};
 use std::alloc::Global;
 use tup_path::{Items, Text};
 use tup_rows::{RowFault, Words};
-use tup_runner::{Answer, Asks};
+use tup_runner::{Answer, Asks, Stamped};
 
 /// `cat` of so many files.
 pub(crate) fn asks(alloc: Global, said: &Words) -> Words {
@@ -92,7 +92,10 @@ fn alike(alloc: Global, said: &Words, content: &str) -> Asks {
 /// Adds the reply with the content of the file at a depth.
 fn reply(alloc: Global, said: &Words, replies: &mut Asks, (depth, line): (u64, &str)) {
     match (file(alloc, depth), content(alloc, line.as_bytes())) {
-        (Ok(name), Ok(content)) => said.list(replies, (name, Answer::Content(content))),
+        (Ok(name), Ok(content)) => said.list(
+            replies,
+            (name, Answer::Content(Stamped::new(content))),
+        ),
         _ => said.fail(RowFault::Memory),
     }
 }

@@ -8,7 +8,7 @@ use tup_given::Replies;
 use tup_mini::Mini;
 use tup_path::{Bytes, Items, Path, Text};
 use tup_rows::{Answers, RowFault, Words, try_file};
-use tup_runner::{Answer, Asks, Ended, RunFailed, Runner};
+use tup_runner::{Answer, Asks, Ended, RunFailed, Runner, Stamped};
 
 pub(crate) fn try_rows<R: Files + Print>(rt: &R, alloc: Global) -> io::Result<()> {
     try_file(rt, alloc, "mini.rows", &mut Commands)
@@ -52,7 +52,7 @@ fn asks_of(alloc: Global, said: &Words) -> Asks {
 fn answer_at(alloc: Global, said: &Words, at: usize) -> Answer {
     match said.word_at(at) {
         b"-" => Answer::Absent,
-        _ => Answer::Content(Bytes::new(said.bytes_at(alloc, at))),
+        _ => content(said.bytes_at(alloc, at)),
     }
 }
 
@@ -105,6 +105,11 @@ fn listed(alloc: Global, texts: &[Text]) -> Words {
     words
 }
 
+/// The answer that these bytes are.
+fn content(bytes: Vec<u8>) -> Answer {
+    Answer::Content(Stamped::new(Bytes::new(bytes)))
+}
+
 /// The status of a command that was answered so many bytes.
 fn sized(alloc: Global, said: &Words) -> Words {
     let mut bytes = Vec::new(alloc);
@@ -113,7 +118,7 @@ fn sized(alloc: Global, said: &Words) -> Words {
     }
     let mut replies = Items::new(alloc);
     match text(alloc, "a") {
-        Ok(name) => said.list(&mut replies, (name, Answer::Content(Bytes::new(bytes)))),
+        Ok(name) => said.list(&mut replies, (name, content(bytes))),
         Err(fault) => said.fail(fault),
     }
     counted(alloc, &said.text_at(alloc, 0), replies)

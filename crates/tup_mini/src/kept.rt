@@ -117,7 +117,7 @@ fn ask<V: View>(alloc: Global, text: &Text, view: &mut V) -> Result<Option<Bytes
         (ask_for text.now kept) kept result }
 {
     match view.ask(alloc, text)? {
-        Answer::Content(content) => Ok(Some(content)),
+        Answer::Content(content) => Ok(Some(content.into_bytes())),
         Answer::Absent => Ok(None),
     }
 }

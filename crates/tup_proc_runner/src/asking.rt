@@ -6,7 +6,7 @@ use std::alloc::Global;
 use tup_path::Text;
 use tup_proc::LogLine;
 use tup_runner::{Answer, RunFailed, View};
-use tup_stamp::{Stamp, stamp_of};
+use tup_stamp::Stamp;
 
 /// Asks the view for what a log says that its program asked, in order. Gives the text of the first answer that isn't what the
 /// log says, if there is one; after it nothing is asked.
@@ -73,7 +73,7 @@ fn found(answer: &Answer) -> Option<Stamp>
     ensures { result ≡ found_in answer.now }
 {
     match answer {
-        Answer::Content(bytes) => Some(stamp_of(bytes.as_slice())),
+        Answer::Content(content) => Some(content.stamp()),
         Answer::Absent => None,
     }
 }

@@ -10,6 +10,7 @@ mod performing;
 mod recording;
 mod report;
 mod runner;
+mod stamped;
 mod step;
 mod view;
 
@@ -17,5 +18,6 @@ pub use fault::{RunFailed, ViewFailed};
 pub use performing::perform;
 pub use report::Report;
 pub use runner::Runner;
+pub use stamped::Stamped;
 pub use step::{Answer, Asks, Ended, Step, Writes};
 pub use view::View;

@@ -1,10 +1,11 @@
 //! One step of a command.
+use crate::stamped::Stamped;
 use tup_path::{Bytes, Items, Text};
 
 /// What a command is answered for a file that it asks for.
 #[derive(Clone, Drop)]
 pub enum Answer {
-    Content(Bytes),
+    Content(Stamped),
     Absent,
 }
 

@@ -7,7 +7,7 @@ use std::rt::Files;
 use tup_child::{Failure, Tree};
 use tup_path::{Bytes, Items, Path, PathFault, Text};
 use tup_proc::LogLine;
-use tup_runner::{Answer, View, ViewFailed};
+use tup_runner::{Answer, Stamped, View, ViewFailed};
 use tup_stamp::stamp_of;
 
 /// The files below a root as a command in a folder sees them: its own outputs aren't there.
@@ -86,7 +86,7 @@ impl<R: Files<File = File> + Clone + Drop> View for Project<'_, R> {
             return Err(ViewFailed::Memory);
         }
         Ok(match found {
-            Some(bytes) => Answer::Content(bytes),
+            Some(bytes) => Answer::Content(Stamped::new(bytes)),
             None => Answer::Absent,
         })
     }
