@@ -1,12 +1,14 @@
 //! A board whose seats are driven by hand.
 ghost use Rattle.std.specs.Prelude.{◌≡◌, IfOk, IsTrue};
 ghost use Rattle.tup_board.specs.Board.{course_of, plan_of};
+ghost use Rattle.tup_board.specs.Calls.{AreStamped};
+ghost use Rattle.tup_runner.specs.Report.{asks_of};
 ghost use Rattle.tup_schedule.specs.Course.{GoesOn, RunsRule, WasDenied};
 
 use crate::order::Order;
 use crate::quiet::Quiet;
-use crate::report::{note, performed};
-use crate::seat::{is_over_asks, may_run, rule_of};
+use crate::report::note;
+use crate::seat::{may_run, rule_of, seat_report};
 use crate::shown::{
     asked_words, claimed_words, drained_words, ended_words, fault_words, verdict_words,
 };
@@ -136,14 +138,15 @@ impl Desk {
             Ok(report) => {
                 let done = self.finish(alloc, seat, &report);
                 drop(report);
-                done
+                Ok(done)
             }
             Err(RunFailed::Denied) => self.ask_next(alloc, seat),
+            Err(RunFailed::View) => Err(RowFault::OtherKind),
             Err(_) => Err(RowFault::Memory),
         }
     }
 
-    /// The report of the command of a seat over what it was told.
+    /// The report of the command of a seat over what it was told. `View` where this isn't what the seat was answered.
     fn report(&mut self, alloc: Global, seat: u32) -> Result<Report<Mini>, RunFailed>
         requires runs { GoesOn (course_of self.old.board) seat }
         ensures board { self.new.board ≡ self.old.board }
@@ -151,31 +154,32 @@ impl Desk {
             → report.dir ≡ it.rule.dir) }
         ensures text { IfOk result (λ report. (it : RunsRule (course_of self.old.board) seat)
             → report.text ≡ it.rule.text) }
+        ensures asks { IfOk result (λ report. (it : RunsRule (course_of self.old.board) seat)
+            → AreStamped it.running.asks (asks_of report)) }
     {
         let Some(rule) = rule_of(&self.board, &self.plan, seat) else {
             return Err(RunFailed::Memory);
         };
         match self.told.get_mut(seat as usize) {
-            Some(told) => performed(alloc, &mut Mini::new(alloc), rule, told),
+            Some(told) => seat_report(alloc, &self.board, seat, rule, told),
             None => Err(RunFailed::Memory),
         }
     }
 
-    /// Ends the command of a seat. `OtherKind` where its report isn't over what it was told.
-    fn finish(&mut self, alloc: Global, seat: u32, report: &Report<Mini>) -> Result<Words, RowFault>
+    /// Ends the command of a seat.
+    fn finish(&mut self, alloc: Global, seat: u32, report: &Report<Mini>) -> Words
         requires runs { GoesOn (course_of self.old.board) seat }
         requires dir { (it : RunsRule (course_of self.old.board) seat)
             → report.now.dir ≡ it.rule.dir }
         requires text { (it : RunsRule (course_of self.old.board) seat)
             → report.now.text ≡ it.rule.text }
+        requires asks { (it : RunsRule (course_of self.old.board) seat)
+            → AreStamped it.running.asks (asks_of report.now) }
     {
-        if !is_over_asks(alloc, &self.board, seat, report)? {
-            return Err(RowFault::OtherKind);
-        }
         let ended = self.board.finish(alloc, &self.plan, seat, report);
         let words = ended_words(alloc, &ended);
         drop(ended);
-        Ok(words)
+        words
     }
 
     /// The command of a seat asks for the text that its view has refused.

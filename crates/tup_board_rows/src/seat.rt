@@ -9,12 +9,14 @@ ghost use Rattle.tup_board_rows.specs.Desk.{MayRun};
 ghost use Rattle.tup_runner.specs.Report.{asks_of};
 
 use crate::desk::MemBoard;
+use crate::report::reported;
 use std::alloc::{AllocError, Global};
 use tup_core::{Plan, Running, StampAsks};
+use tup_given::Replies;
 use tup_mini::Mini;
 use tup_path::{Items, Text};
 use tup_rule::Rule;
-use tup_runner::{Answer, Report};
+use tup_runner::{Answer, Report, RunFailed};
 use tup_stamp::Stamp;
 
 /// The rule that a seat runs.
@@ -34,17 +36,38 @@ pub(crate) fn may_run(plan: &Plan, seat: u32, running: &Running) -> bool
     seat < 16 && plan.rules.as_slice().get(running.rule as usize).is_some()
 }
 
-/// Whether a report has the asks of what a seat runs, with the stamps that they were answered.
-pub(crate) fn is_over_asks(
+/// The report of the command that a seat runs over what it was told. `View` where this isn't what the seat was answered.
+pub(crate) fn seat_report(
     alloc: Global,
     board: &MemBoard,
     seat: u32,
-    report: &Report<Mini>,
+    rule: &Rule,
+    told: &mut Replies,
+) -> Result<Report<Mini>, RunFailed>
+    ensures dir { IfOk result (λ report. report.dir ≡ rule.now.dir) }
+    ensures text { IfOk result (λ report. report.text ≡ rule.now.text) }
+    ensures asks { IfOk result (λ report. (it : RunsRule (course_of board.now) seat)
+        → AreStamped it.running.asks (asks_of report)) }
+{
+    let report = reported(alloc, &mut Mini::new(alloc), rule, told)?;
+    let over = is_over_asks(alloc, board, seat, told.given())?;
+    if !over {
+        return Err(RunFailed::View);
+    }
+    Ok(report)
+}
+
+/// Whether these are the asks of what a seat runs, with the stamps that they were answered.
+fn is_over_asks(
+    alloc: Global,
+    board: &MemBoard,
+    seat: u32,
+    told: &[(Text, Answer)],
 ) -> Result<bool, AllocError>
     ensures { IfOk result (λ is. IsTrue is → (it : RunsRule (course_of board.now) seat)
-        → AreStamped it.running.asks (asks_of report.now)) }
+        → AreStamped it.running.asks told.now) }
 {
-    let stamped = stamped(alloc, report.asks())?;
+    let stamped = stamped(alloc, told)?;
     match board.running(seat) {
         Some(running) => Ok(running.asks == stamped),
         None => Ok(false),

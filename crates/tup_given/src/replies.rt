@@ -30,6 +30,13 @@ impl Replies {
         }
     }
 
+    /// All of them, each with its text.
+    pub fn given(&self) -> &[(Text, Answer)]
+        ensures { result.now ≡ self.now.given }
+    {
+        self.given.as_slice()
+    }
+
     /// How many there are.
     pub fn len(&self) -> usize
         ensures { result ≡ length self.now.given }

@@ -6,6 +6,7 @@
 #![tactic(auto)]
 
 mod fault;
+mod ghost_asks;
 mod performing;
 mod recording;
 mod report;

@@ -4,13 +4,14 @@ ghost use Rattle.tup_runner.specs.Report.{Reports};
 ghost use Rattle.tup_runner.specs.Run.{RunsAs, Appends, CountsFaults};
 
 use crate::fault::RunFailed;
+use crate::ghost_asks::GhostAsks;
 use crate::recording::{Recording, into_asks};
 use crate::report::Report;
 use crate::runner::Runner;
 use crate::view::View;
 use std::alloc::Global;
 use std::marker::PhantomData;
-use tup_path::{Items, Path, Text};
+use tup_path::{Path, Text};
 
 /// Runs a command in a folder through a view, which has refused nothing yet, and reports what it asked and how it ended.
 ///
@@ -37,7 +38,7 @@ pub fn perform<R: Runner, V: View>(
     let report_text = text.clone()?;
     let mut recording = Recording {
         view,
-        asks: Items::new(alloc),
+        asks: GhostAsks::new(alloc),
     };
     let outcome = runner.run(alloc, dir, text, &mut recording);
     let asks = into_asks(recording);

@@ -1,13 +1,14 @@
-//! A view that keeps what it is asked.
+//! A view that remembers what it is asked.
 ghost use Rattle.std.specs.Prelude.{◌≡◌};
 
 use crate::fault::ViewFailed;
-use crate::step::{Answer, Asks};
+use crate::ghost_asks::GhostAsks;
+use crate::step::Answer;
 use crate::view::View;
 use std::alloc::Global;
 use tup_path::{Path, Text};
 
-/// A view that asks another and keeps what it is asked. `A` is `Asks`.
+/// A view that asks another and remembers what it is asked. `A` is `GhostAsks`.
 #[derive(Drop)]
 pub(crate) struct Recording<'v, V: View, A> {
     pub(crate) view: &'v mut V,
@@ -23,7 +24,7 @@ pub(crate) fn into_asks<V: View, A: Drop>(recording: Recording<'_, V, A>) -> A
     asks
 }
 
-impl<V: View> View for Recording<'_, V, Asks> {
+impl<V: View> View for Recording<'_, V, GhostAsks> {
     ghost use Rattle.std.specs.Prelude.{◌≡◌, ◌++◌, true};
     ghost use Rattle.std.proofs.Common.{refl, sym, ap, ◌∙◌, append_assoc};
     ghost use Rattle.std.proofs.lemmas.List.{append-nil};
@@ -45,7 +46,7 @@ impl<V: View> View for Recording<'_, V, Asks> {
 
     fn ask(&mut self, alloc: Global, text: &Text) -> Result<Answer, ViewFailed> {
         let answer = self.view.ask(alloc, text)?;
-        self.asks.push((text.clone()?, answer.clone()?))?;
+        self.asks.push(text, &answer)?;
         Ok(answer)
     }
 

@@ -6,6 +6,6 @@ finish-ended-requires-clause-report c = record {
   it = c.requires.runs;
   dir_is = c.requires.dir c.requires.runs.it;
   text_is = c.requires.text c.requires.runs.it;
-  asks_are = c.in_ok-is_over_asks.ensures c.if-not-branch.false c.requires.runs.it;
+  asks_are = c.requires.asks c.requires.runs.it;
   known = λ tells. absurd (false≢true tells);
 }
