@@ -24,3 +24,5 @@ pub mod Seeing
 pub mod Draining
 pub mod Performed
 pub mod Sent
+pub mod EntriesAt
+pub mod CallsAt

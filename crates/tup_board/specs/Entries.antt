@@ -1,5 +1,5 @@
 -- What the entries of one seat tell (own): the events of its number in a board's history, each once and in order.
-use Rattle.std.specs.Prelude.{◌≡◌, ◌⊎◌, ℕ, List, [], ◌∷◌, Option, None, Some, Result, Ok, Err, map, option_map, slice_get}
+use Rattle.std.specs.Prelude.{◌≡◌, ◌⊎◌, ◌==◌, ℕ, List, [], ◌∷◌, Option, None, Some, Result, Ok, Err, filter, map, option_map, slice_get}
 use Rattle.tup_path.specs.Name.{Names}
 use Rattle.tup_rule.specs.declared.rule.Rule.{Rule}
 use Rattle.tup_runner.specs.Next.{Asks}
@@ -17,8 +17,13 @@ use Rattle.tup_schedule.specs.declared.claimed.Claimed.{Claimed}
 use Rattle.tup_schedule.specs.declared.claimed.Claimed.TheVariants.{Rule as Gives, Wait, Over}
 use Rattle.tup_rule_outputs.specs.declared.fault.BoardFault.{BoardFault}
 use Rattle.tup_rule_outputs.specs.declared.fault.BoardFault.TheVariants.{TooLarge}
+use Rattle.tup_board.specs.Board.{seat_of}
 use Rattle.tup_board.specs.Calls.{AreStamped}
 use Rattle.tup_board.specs.Cause.{stops_by}
+
+-- the events of a seat's number, each once and in order
+abbrev pub entries_at : ℕ → List CoreEvent → List CoreEvent
+entries_at number events = filter (λ event. seat_of event == number) events
 
 -- what a seat runs after one of its entries
 abbrev pub after_entry : Option Running → CoreEvent → Option Running

@@ -1,4 +1,3 @@
 pub mod Going
 pub mod Placed
-pub mod Sharing
 pub mod Told

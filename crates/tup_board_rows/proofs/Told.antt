@@ -1,21 +1,14 @@
 -- Asks with the stamps of their answers, one after another.
-use Rattle.std.proofs.Common.{◌≡◌, ◌&&◌, ℕ, Bool, List, [], ◌∷◌, ◌++◌, Option, Some, None, nat_eq, refl, sym, ap, ◌∙◌, subst, take}
-use Rattle.std.specs.Prelude.{IsTrue, option_map}
+use Rattle.std.proofs.Common.{◌≡◌, ◌&&◌, ℕ, List, [], ◌∷◌, ◌++◌, Option, Some, None, nat_eq, refl, sym, ap, ◌∙◌, take}
 use Rattle.std.specs.Bool.{Decides}
 use Rattle.std.specs.Option.{option_eq}
 use Rattle.std.specs.Cmp.Lexicographic.{pointwise, bytes_decides}
 use Rattle.std.proofs.lemmas.Bool.Decides.{Decides-and, Decides-like}
-use Rattle.std.proofs.lemmas.Option.{same_Some}
 use Rattle.tup_stamp.specs.declared.Stamp.{Stamp}
 use Rattle.tup_stamp.specs.contracts.StampPartialEq.TheImpl as stamps
-use Rattle.tup_runner.specs.Honest.{AsksAfter}
 use Rattle.tup_runner.specs.Next.{Asks}
-use Rattle.tup_runner.specs.Refusal.{Refusal}
-use Rattle.tup_runner.specs.Run.{WasRefused}
-use Rattle.tup_runner.specs.declared.fault.ViewFailed.TheVariants.{Denied as ViewDenied}
-use Rattle.tup_runner.specs.declared.step.Step.{Step}
 use Rattle.tup_runner.specs.declared.step.Answer.{Answer}
-use Rattle.tup_given.specs.Replies.{ComesOn, answered, refusal_of}
+use Rattle.tup_given.specs.Replies.{ComesOn, answered}
 use Rattle.tup_given.specs.declared.replies.Replies.{Replies}
 use Rattle.tup_board.specs.Calls.{AreStamped, IsStampOf}
 
@@ -44,16 +37,3 @@ ask_decides one other =
 -- a view that has answered nothing came on by all that it has answered then
 pub came_all : (first : Replies) (some : Asks) (last : Replies) → first.asked ≡ 0 → ComesOn first some last → some ≡ answered last
 came_all first some last none came = sym (came.1 ∙ ap (λ (n : ℕ). take n first.given ++ some) none)
-
--- what it has refused that denied a text
-abbrev denial : List ℕ → Refusal
-denial text = record { text = text; why = ViewDenied }
-
--- and asks next for that text
-pub asks_next : (tells : Bool) (does : Asks → Step) (first last : Replies) (text : List ℕ) → first.asked ≡ 0 → last.denied ≡ Some text → WasRefused tells does (λ asks. ComesOn first asks last) (refusal_of last) ViewDenied → IsTrue tells
-    → AsksAfter does (answered last) text
-asks_next tells does first last text none denied was told =
-    subst (λ (t : List ℕ). AsksAfter does (answered last) t) same (subst (λ (asks : Asks). AsksAfter does asks was.last) (came_all first was.asks last none was.came_by) (was.means told))
-  where
-    same : was.last ≡ text
-    same = ap (λ (r : Refusal). r.text) (same_Some (denial was.last) (denial text) (sym was.refused ∙ ap (option_map denial) denied))

@@ -1,4 +1,3 @@
 pub mod Apart
 pub mod Desk
 pub mod Opening
-pub mod Told

@@ -73,8 +73,7 @@ impl Desk {
             "work" => self.work(alloc, seat, STEPS),
             "all" => self.all(alloc, seat),
             "drain" => self.show_drain(alloc),
-            "ask" => self.ask_for(alloc, seat, order, 1),
-            "asks" => self.ask_for(alloc, seat, order, order.number(3)),
+            "ask" => self.ask_for(alloc, seat, order),
             "denied" => self.end_denied(alloc, seat),
             "stop" => self.stop(alloc, seat, order.word(2)),
             _ => Err(RowFault::NoSuchCall),
@@ -202,35 +201,15 @@ impl Desk {
         self.told.get_mut(seat as usize)?.take_denied()
     }
 
-    /// The command of a seat asks for the text of an order so often: the last answer.
-    fn ask_for(
-        &mut self,
-        alloc: Global,
-        seat: u32,
-        order: &Order<'_>,
-        times: u32,
-    ) -> Result<Words, RowFault> {
-        let text = order.text(alloc);
-        let last = self.ask_often(alloc, seat, &text, times);
-        drop(text);
-        last
-    }
-
-    fn ask_often(
-        &mut self,
-        alloc: Global,
-        seat: u32,
-        text: &Text,
-        times: u32,
-    ) -> Result<Words, RowFault> {
-        let mut last = Err(RowFault::OtherKind);
-        for _ in 0..times {
-            if !self.goes_on(seat) {
-                return Err(RowFault::OtherKind);
-            }
-            set(&mut last, self.ask(alloc, seat, text));
+    /// The command of a seat asks for the text of an order.
+    fn ask_for(&mut self, alloc: Global, seat: u32, order: &Order<'_>) -> Result<Words, RowFault> {
+        if !self.goes_on(seat) {
+            return Err(RowFault::OtherKind);
         }
-        last
+        let text = order.text(alloc);
+        let told = self.ask(alloc, seat, &text);
+        drop(text);
+        told
     }
 
     /// The command of a seat asks for a text.

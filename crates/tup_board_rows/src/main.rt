@@ -2,16 +2,14 @@
 //!
 //! The file of `data/` has rows, a call with the answer that is wanted each. Its head says what the calls and their
 //! arguments mean. A board stands over a site in memory that tells contracts nothing but its failures (`Quiet`); what a
-//! call of the board asks of its caller is tested before it (`tup_apart`, `desk`). Where one seat alone works, the board stands
-//! over the site in memory itself, and all that is asked of its caller is proved (`opening`, `only`). Behind the rows, crews
-//! drain boards, each runner in a thread of its own, and come to what one runner comes to (`crew`).
+//! call of the board asks of its caller is tested before it (`tup_apart`, `desk`). Behind the rows, crews drain boards over the
+//! site in memory itself, each runner in a thread of its own, and come to what one runner comes to (`crew`).
 #![tactic(auto)]
 
 mod clean;
 mod crash;
 mod crew;
 mod desk;
-mod only;
 mod opening;
 mod order;
 mod place;

@@ -1,9 +1,7 @@
 //! What a command was told, and its report over that.
-ghost use Rattle.std.specs.Prelude.{◌≡◌, ◌++◌, ◌∷◌, ℕ, List, [], Err, Some, IfOk, IsTrue, OnOk};
+ghost use Rattle.std.specs.Prelude.{◌≡◌, IfOk};
 ghost use Rattle.tup_given.specs.Replies.{answered};
-ghost use Rattle.tup_runner.specs.Honest.{AsksAfter};
 ghost use Rattle.tup_runner.specs.Report.{asks_of};
-ghost use Rattle.tup_board_rows.specs.Told.{AsksNext};
 
 use std::alloc::{AllocError, Global};
 use tup_board::Asked;
@@ -22,15 +20,12 @@ pub(crate) fn note(told: &mut Replies, text: &Text, asked: &Asked) -> Result<(),
 }
 
 /// Adds what a text was answered.
-pub(crate) fn add(told: &mut Replies, text: &Text, answer: Answer) -> Result<(), AllocError>
-    ensures { OnOk result (told.new.given ≡ told.old.given ++ (text.now, answer) ∷ []) }
-{
+fn add(told: &mut Replies, text: &Text, answer: Answer) -> Result<(), AllocError> {
     told.add(text.clone()?, answer)?;
     Ok(())
 }
 
-/// The report of the command of a rule over all that it was told, in its order. Where it asks for a text more, this is
-/// `Denied`; where it asks for others, `View`.
+/// The report of the command of a rule over all that it was told, in its order. Where it asks for others, this is `View`.
 pub(crate) fn reported<R: Runner>(
     alloc: Global,
     runner: &mut R,
@@ -41,8 +36,6 @@ pub(crate) fn reported<R: Runner>(
     ensures text { IfOk result (λ report. report.text ≡ rule.now.text) }
     ensures asks { IfOk result (λ report. asks_of report ≡ told.old.given) }
     ensures given { told.new.given ≡ told.old.given }
-    ensures next { result ≡ Err RunFailed.Denied
-        → AsksNext R.tells (R.next rule.now.dir rule.now.text) told.new }
 {
     let report = performed(alloc, runner, rule, told);
     if told.asked() < told.len() {
@@ -63,9 +56,6 @@ pub(crate) fn performed<R: Runner>(
     ensures text { IfOk result (λ report. report.text ≡ rule.now.text) }
     ensures asks { IfOk result (λ report. asks_of report ≡ answered told.new) }
     ensures given { told.new.given ≡ told.old.given }
-    ensures next { result ≡ Err RunFailed.Denied → (asked : List ℕ)
-        → told.new.denied ≡ Some asked → IsTrue R.tells
-        → AsksAfter (R.next rule.now.dir rule.now.text) (answered told.new) asked }
 {
     told.rewind();
     perform(alloc, runner, &rule.dir, &rule.text, told)

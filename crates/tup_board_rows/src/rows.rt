@@ -1,8 +1,7 @@
 //! The calls of `board.rows`.
-use crate::only::alone;
 use crate::project::Given;
 use crate::script::script;
-use crate::sweep::{edited, sweep};
+use crate::sweep::sweep;
 use std::alloc::Global;
 use tup_rows::{Answers, RowFault, Words};
 
@@ -13,9 +12,7 @@ impl Answers for Given {
             "rule" => Ok(self.project.add_rule(alloc, said)),
             "large" => Ok(self.set_large(alloc, said)),
             "anew" => Ok(self.begin_anew(alloc)),
-            "alone" => alone(alloc, self, said),
             "sweep" => sweep(alloc, self, said),
-            "edited" => edited(alloc, self, said),
             _ => script(alloc, self, call, said),
         }
     }

@@ -29,7 +29,7 @@ pub(crate) fn script(
 }
 
 /// The answer of a row, which isn't looked at any further.
-pub(crate) fn none(alloc: Global, said: &Words) -> Words {
+fn none(alloc: Global, said: &Words) -> Words {
     said.as_slice();
     Words::word(alloc, b"none")
 }
@@ -80,7 +80,7 @@ fn obey(
     Ok(())
 }
 
-pub(crate) fn add_all(alloc: Global, words: &mut Words, more: &[Vec<u8>]) {
+fn add_all(alloc: Global, words: &mut Words, more: &[Vec<u8>]) {
     for word in more {
         words.put(alloc, word);
     }
@@ -113,17 +113,13 @@ fn looked_at(
     }
 }
 
+/// All that happened.
 fn events(alloc: Global, history: &[CoreEvent]) -> Words {
     let mut words = Words::new(alloc);
-    add_events(alloc, &mut words, history);
-    words
-}
-
-/// All that happened.
-pub(crate) fn add_events(alloc: Global, words: &mut Words, history: &[CoreEvent]) {
     for event in history {
-        show_event(alloc, words, event);
+        show_event(alloc, &mut words, event);
     }
+    words
 }
 
 fn flags(alloc: Global, parts: &BoardParts<Quiet>) -> Words {

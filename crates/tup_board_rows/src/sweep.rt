@@ -7,8 +7,7 @@ use crate::project::Given;
 use crate::quiet::Quiet;
 use std::alloc::Global;
 use tup_board::BoardParts;
-use tup_core::{Cause, CoreEvent};
-use tup_path::Bytes;
+use tup_core::Cause;
 use tup_rows::{RowFault, Words};
 use tup_rule::Rule;
 use tup_site::MemSite;
@@ -128,23 +127,15 @@ fn crashed(
 }
 
 fn mended(alloc: Global, site: MemSite, rules: &[Rule]) -> Result<Outcome, RowFault> {
-    Ok(if next(alloc, site, rules)?.is_clean {
+    Ok(if is_next_clean(alloc, site, rules)? {
         Outcome::Mended
     } else {
         Outcome::Other
     })
 }
 
-/// What the next update of a site came to.
-#[derive(Drop)]
-struct SecondUpdate {
-    /// The rules that it ran.
-    ran: Words,
-    /// Whether it was done and left the clean build.
-    is_clean: bool,
-}
-
-fn next(alloc: Global, site: MemSite, rules: &[Rule]) -> Result<SecondUpdate, RowFault> {
+/// Whether the next update of a site is done and leaves the clean build.
+fn is_next_clean(alloc: Global, site: MemSite, rules: &[Rule]) -> Result<bool, RowFault> {
     looked_at(alloc, drained(alloc, next_board(alloc, site)?), rules)
 }
 
@@ -152,59 +143,12 @@ fn looked_at(
     alloc: Global,
     mut parts: BoardParts<Quiet>,
     rules: &[Rule],
-) -> Result<SecondUpdate, RowFault> {
-    let next = next_of(alloc, &mut parts, rules);
+) -> Result<bool, RowFault> {
+    let is_done = is_done(alloc, &mut parts, rules);
     drop(parts);
-    next
+    is_done
 }
 
-fn next_of(
-    alloc: Global,
-    parts: &mut BoardParts<Quiet>,
-    rules: &[Rule],
-) -> Result<SecondUpdate, RowFault> {
-    let is_clean = is_clean(alloc, parts.site.beneath(), rules)? && parts.cause.is_none();
-    let ran = claims(alloc, parts.history.as_slice());
-    Ok(SecondUpdate { ran, is_clean })
-}
-
-/// The rules that were claimed, in their order.
-fn claims(alloc: Global, events: &[CoreEvent]) -> Words {
-    let mut words = Words::new(alloc);
-    for event in events {
-        if let CoreEvent::Claim { rule, .. } = event {
-            words.show(alloc, rule);
-        }
-    }
-    words
-}
-
-/// An update of a reach; then somebody changes a file. The answer is what the next update runs, and `same` if it leaves the
-/// clean build.
-pub(crate) fn edited(alloc: Global, given: &Given, said: &Words) -> Result<Words, RowFault> {
-    let parts = drained(alloc, board_of(alloc, given, said, u64::MAX)?);
-    changed(alloc, site_in(parts), given.project.rules.as_slice(), said)
-}
-
-/// Somebody changes the file that a row names: what the next update runs.
-fn changed(
-    alloc: Global,
-    mut site: MemSite,
-    rules: &[Rule],
-    said: &Words,
-) -> Result<Words, RowFault> {
-    let content = Bytes::new(said.bytes_at(alloc, 3));
-    match site.edit(alloc, said.path_at(alloc, 2), Some(content)) {
-        Ok(()) => Ok(ran_again(alloc, next(alloc, site, rules)?)),
-        Err(_) => {
-            drop(site);
-            Err(RowFault::OtherKind)
-        }
-    }
-}
-
-fn ran_again(alloc: Global, next: SecondUpdate) -> Words {
-    let mut words = next.ran;
-    words.put(alloc, sameness(next.is_clean));
-    words
+fn is_done(alloc: Global, parts: &mut BoardParts<Quiet>, rules: &[Rule]) -> Result<bool, RowFault> {
+    Ok(is_clean(alloc, parts.site.beneath(), rules)? && parts.cause.is_none())
 }

@@ -29,7 +29,7 @@ use Rattle.tup_board.specs.Board.{BoardState, Opening, course_of, plan_of, seat_
 use Rattle.tup_board.specs.Calls.{AreKnown, Finishes, IsAsked, ask_events, opened_as}
 use Rattle.tup_board.proofs.Known.{keeps_all}
 use Rattle.tup_board.proofs.Seeing.{state_more}
-use Rattle.tup_alone.specs.Own.{entries_at}
+use Rattle.tup_board.specs.Entries.{entries_at}
 use Rattle.tup_lock.specs.Boards.{board_log}
 use Rattle.tup_lock.specs.Held.{IsFound, OwnStep}
 use Rattle.tup_lock.proofs.Going.{still_going}

@@ -9,9 +9,8 @@ use Rattle.tup_core.specs.Honest.{EndsHonestly}
 use Rattle.tup_core.specs.declared.event.CoreEvent.{CoreEvent}
 use Rattle.tup_core.specs.declared.plan.Plan.{Plan}
 use Rattle.tup_board.specs.Board.{BoardState}
-use Rattle.tup_board.specs.Entries.{WasDeniedBy, runs_after}
+use Rattle.tup_board.specs.Entries.{WasDeniedBy, entries_at, runs_after}
 use Rattle.tup_board.proofs.Known.{ends_more}
-use Rattle.tup_alone.specs.Own.{entries_at}
 use Rattle.tup_lock.specs.Boards.{entries_by}
 use Rattle.tup_lock.specs.declared.logged.Logged.{Ghosts as Log}
 use Rattle.tup_lock.specs.declared.seat.Seat.{Seat}

@@ -8,7 +8,7 @@ use Rattle.tup_core.specs.contracts.event.Cause as of_cause
 use Rattle.tup_core.specs.declared.event.CoreEvent.{CoreEvent}
 use Rattle.tup_board.specs.Board.{BoardState, plan_of, seat_of, state}
 use Rattle.tup_board.specs.Calls.{opened_as}
-use Rattle.tup_alone.specs.Own.{entries_at}
+use Rattle.tup_board.specs.Entries.{entries_at}
 use Rattle.tup_lock.specs.declared.logged.Logged.{Ghosts as Log}
 use Rattle.tup_lock.specs.declared.seat.Seat.{Seat}
 use Rattle.tup_lock.specs.Held.{log_of}

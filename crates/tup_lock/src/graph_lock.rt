@@ -1,7 +1,7 @@
 //! A board under a lock.
 ghost use Rattle.std.specs.Prelude.{◌≡◌, ◌≤◌, ◌<◌, ℕ, [], None, length, slice_index_or, IfOk, IfErr, All};
 ghost use Rattle.tup_board.specs.Board.{seat_of, state};
-ghost use Rattle.tup_alone.specs.Own.{entries_at};
+ghost use Rattle.tup_board.specs.Entries.{entries_at};
 ghost use Rattle.tup_lock.specs.Boards.{board_log};
 ghost use Rattle.tup_lock.specs.Seats.{AreSeatsOf, AreNew};
 

@@ -22,7 +22,7 @@ use Rattle.tup_board.specs.CameLaws.{claims_both}
 use Rattle.tup_board.specs.Seat.{KeepsCount}
 use Rattle.tup_board.specs.declared.answers.Drained.{Drained}
 use Rattle.tup_board.specs.declared.answers.Drained.TheVariants.{Done, Left}
-use Rattle.tup_alone.specs.Own.{entries_at}
+use Rattle.tup_board.specs.Entries.{entries_at}
 use Rattle.tup_lock.specs.Boards.{board_log}
 use Rattle.tup_lock.proofs.Histories.{entries_all, entries_both, entries_none}
 use Rattle.tup_parallel.specs.Parallel.{CrewRan, CrewStood, IsAlone, Leaves, NoneFailed, OneFailed, RanAt}

@@ -15,9 +15,8 @@ use Rattle.tup_schedule.specs.Course.{NoneRuns}
 use Rattle.tup_board.specs.Board.{BoardState, course_of, plan_of, seat_of as seat_at, start, state}
 use Rattle.tup_board.specs.Calls.{commands}
 use Rattle.tup_board.specs.CameLaws.{no_place}
-use Rattle.tup_board.specs.Entries.{runs_after}
-use Rattle.tup_alone.specs.Own.{entries_at}
-use Rattle.tup_alone.proofs.Own.{runs_are}
+use Rattle.tup_board.specs.Entries.{entries_at, runs_after}
+use Rattle.tup_board.proofs.EntriesAt.{runs_are}
 use Rattle.tup_lock.specs.Boards.{board_log, entries_by}
 use Rattle.tup_lock.specs.Seats.{AreNew, AreSeatsOf, IsSeatOf}
 use Rattle.tup_lock.specs.declared.seat.Seat.{Seat}

@@ -13,7 +13,7 @@ use Rattle.tup_board.specs.Board.{BoardState, course_of, seat_of, state}
 use Rattle.tup_board.specs.Calls.{HasRunCause, RanAll, TakesFirst, commands}
 use Rattle.tup_board.specs.Seat.{KeepsCount}
 use Rattle.tup_board.specs.declared.answers.Drained.{Drained}
-use Rattle.tup_alone.specs.Own.{entries_at}
+use Rattle.tup_board.specs.Entries.{entries_at}
 
 -- a crew has a runner, and at most 16
 abbrev pub IsCrew : {R : Type 0} → List R → Type 0

@@ -16,7 +16,7 @@ use Rattle.tup_core.specs.declared.event.CoreEvent.{CoreEvent}
 use Rattle.tup_core.specs.declared.event.CoreEvent.TheVariants.{Claim, Ask, Deny, Finish, Stop as Stopped}
 use Rattle.tup_core.specs.declared.plan.Plan.{Plan}
 use Rattle.tup_core.specs.Run.{claims, seat_of}
-use Rattle.tup_alone.specs.Own.{entries_at}
+use Rattle.tup_board.specs.Entries.{entries_at}
 use Rattle.tup_board.specs.Calls.{RanAll as BoardRan, commands}
 use Rattle.tup_board.specs.declared.answers.Drained.{Drained}
 use Rattle.tup_board.specs.declared.answers.Drained.TheVariants.{Done, Left}

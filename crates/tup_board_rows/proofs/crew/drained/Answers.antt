@@ -1,9 +1,8 @@
 use Rattle.std.proofs.Common.{List, None, sym, ap, ◌∙◌}
 use Rattle.tup_core.specs.declared.event.CoreEvent.{CoreEvent}
 use Rattle.tup_board.specs.Board.{plan_of, start}
-use Rattle.tup_board.specs.Entries.{runs_after}
-use Rattle.tup_alone.specs.Own.{entries_at}
-use Rattle.tup_alone.proofs.Own.{runs_are}
+use Rattle.tup_board.specs.Entries.{entries_at, runs_after}
+use Rattle.tup_board.proofs.EntriesAt.{runs_are}
 use Rattle.tup_board_rows.proofs.crew.drained.Goals as goal
 
 pub drain-drained-requires-clause-none_runs : goal.drain-drained-requires-clause-none_runs

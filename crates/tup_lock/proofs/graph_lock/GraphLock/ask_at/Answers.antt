@@ -7,7 +7,7 @@ use Rattle.tup_lock.specs.Held.{OwnStep}
 use Rattle.tup_board.specs.Calls.{ask_events}
 use Rattle.tup_board.specs.Entries.{GoesOnBy}
 use Rattle.tup_board.proofs.Known.{keeps_all}
-use Rattle.tup_alone.proofs.Calls.{ask_adds, goes_by, told_known}
+use Rattle.tup_board.proofs.CallsAt.{ask_adds, goes_by, told_known}
 use Rattle.tup_lock.proofs.Boards.{ask_steps, more_known, same_entries, same_plan}
 use Rattle.tup_lock.proofs.Leaving.{left_entries}
 use Rattle.tup_lock.proofs.graph_lock.GraphLock.ask_at.Goals as goal

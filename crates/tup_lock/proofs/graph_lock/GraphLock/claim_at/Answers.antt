@@ -3,7 +3,7 @@ use Rattle.tup_board.specs.Board.{plan_of}
 use Rattle.tup_lock.specs.Boards.{board_log}
 use Rattle.tup_lock.specs.Held.{OwnStep}
 use Rattle.tup_board.specs.Entries.{claim_entries, runs_after}
-use Rattle.tup_alone.proofs.Calls.{claim_adds, claims_within, free_old}
+use Rattle.tup_board.proofs.CallsAt.{claim_adds, claims_within, free_old}
 use Rattle.tup_lock.proofs.Boards.{claim_steps, same_entries, same_plan}
 use Rattle.tup_lock.proofs.Leaving.{left_entries}
 use Rattle.tup_lock.proofs.graph_lock.GraphLock.claim_at.Goals as goal

@@ -4,7 +4,7 @@ use Rattle.tup_lock.specs.Boards.{board_log}
 use Rattle.tup_lock.specs.Held.{OwnStep}
 use Rattle.tup_runner.specs.Report.{asks_of, ended_of}
 use Rattle.tup_board.specs.Entries.{EndsBy, IsReportBy}
-use Rattle.tup_alone.proofs.Calls.{ends_by, report_by}
+use Rattle.tup_board.proofs.CallsAt.{ends_by, report_by}
 use Rattle.tup_lock.proofs.Boards.{finish_steps, same_entries, same_plan, still_known}
 use Rattle.tup_lock.proofs.Leaving.{adds_after}
 use Rattle.tup_lock.proofs.graph_lock.GraphLock.finish_at.Goals as goal

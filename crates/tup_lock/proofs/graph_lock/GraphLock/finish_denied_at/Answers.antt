@@ -5,7 +5,7 @@ use Rattle.tup_lock.specs.Held.{OwnStep}
 use Rattle.tup_core.specs.declared.event.CoreEvent.TheVariants.{Finish}
 use Rattle.tup_board.specs.Entries.{WasDeniedBy, runs_after}
 use Rattle.tup_board.proofs.Known.{keeps_all}
-use Rattle.tup_alone.proofs.Calls.{denied_adds, means_by}
+use Rattle.tup_board.proofs.CallsAt.{denied_adds, means_by}
 use Rattle.tup_lock.proofs.Boards.{denied_steps, more_known, same_entries, same_plan}
 use Rattle.tup_lock.proofs.Leaving.{denied_there, left_entries}
 use Rattle.tup_lock.proofs.graph_lock.GraphLock.finish_denied_at.Goals as goal

@@ -3,7 +3,7 @@ use Rattle.tup_board.specs.Board.{plan_of}
 use Rattle.tup_lock.specs.Boards.{board_log}
 use Rattle.tup_lock.specs.Held.{OwnStep}
 use Rattle.tup_board.specs.Entries.{StopsBy}
-use Rattle.tup_alone.proofs.Calls.{stop_adds}
+use Rattle.tup_board.proofs.CallsAt.{stop_adds}
 use Rattle.tup_lock.proofs.Boards.{same_entries, same_plan, stop_steps}
 use Rattle.tup_lock.proofs.Leaving.{adds_after}
 use Rattle.tup_lock.proofs.graph_lock.GraphLock.stop_at.Goals as goal

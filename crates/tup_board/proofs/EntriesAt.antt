@@ -15,10 +15,9 @@ use Rattle.tup_core.specs.Run.{end_of}
 use Rattle.tup_core.specs.Step.{State, after, asked, finished, refused}
 use Rattle.tup_core.proofs.Changed.{changed_here}
 use Rattle.tup_board.specs.Board.{seat_of}
-use Rattle.tup_board.specs.Entries.{after_entry, runs_after}
+use Rattle.tup_board.specs.Entries.{after_entry, entries_at, runs_after}
 use Rattle.tup_board.proofs.Draining.{finish_empties, finish_others, stop_empties, stop_others}
 use Rattle.tup_board.proofs.Seeing.{apart_from}
-use Rattle.tup_alone.specs.Own.{entries_at}
 
 module _ (number : ℕ) where
   -- ---- one event, at the seat and at another

@@ -1,4 +1,4 @@
--- The calls of a board as those of a seat that holds it.
+-- What the calls of a board do at a seat, told by the entries of that seat.
 use Rattle.std.proofs.Common.{◌≡◌, ℕ, ◌<◌, List, [], ◌∷◌, ◌++◌, length, map, Option, None, Some, Result, Ok, Err, refl, sym, ap, ◌∙◌, subst, inl, inr}
 use Rattle.std.specs.Prelude.{Contains, IsSome, IsTrue, slice_get}
 use Rattle.std.proofs.lemmas.Bool.{false≢true}
@@ -31,10 +31,9 @@ use Rattle.tup_board.specs.declared.answers.Asked.{Asked}
 use Rattle.tup_board.specs.declared.answers.Asked.TheVariants as reply_by
 use Rattle.tup_board.specs.Board.{BoardState, course_of, plan_of, start, state}
 use Rattle.tup_board.specs.Calls.{AreKnown, AsksFor, Finishes, HasAskedFor, IsAsked, IsJudgedAt, IsReportOf, IsToldOf, MeansDenied, ask_events}
-use Rattle.tup_board.specs.Entries.{EndsBy, GoesOnBy, IsReportBy, StopsBy, WasDeniedBy, claim_entries, runs_after}
+use Rattle.tup_board.specs.Entries.{EndsBy, GoesOnBy, IsReportBy, StopsBy, WasDeniedBy, claim_entries, entries_at, runs_after}
+use Rattle.tup_board.proofs.EntriesAt.{adds_none, adds_one, runs_are}
 use Rattle.tup_board.proofs.Known.{known_among}
-use Rattle.tup_alone.specs.Own.{entries_at}
-use Rattle.tup_alone.proofs.Own.{adds_none, adds_one, runs_are}
 
 module _ {S : Type 0} (number : ℕ) (old : BoardState S) where
   abbrev entries : List CoreEvent

@@ -1,3 +1,0 @@
-pub mod Own
-pub mod Calls
-pub mod Sent
