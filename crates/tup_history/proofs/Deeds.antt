@@ -1,10 +1,9 @@
 -- A project stays kept by an edit, a crash, and every call that opens its store at most.
-use Rattle.std.proofs.Common.{◌≡◌, ◌⊎◌, ⊎_elim, inl, inr, [], ◌∷◌, ◌++◌, List, Option, None, Some, Contains, refl, sym, ap, subst, ◌∙◌, arith}
+use Rattle.std.proofs.Common.{◌≡◌, ◌⊎◌, ⊎_elim, inl, inr, [], ◌∷◌, List, Option, None, Some, Contains, sym, ap, subst, ◌∙◌, arith}
 use Rattle.std.specs.FinMap as finite
 use Rattle.std.proofs.lemmas.List.Elements.{Contains-append_right}
 use Rattle.tup_path.specs.Name.{Names, Content}
-use Rattle.tup_path.specs.Tree.{Tree}
-use Rattle.tup_site.specs.Choice.{Changed, chosen_world, known_after}
+use Rattle.tup_site.specs.Choice.{Changed, known_after}
 use Rattle.tup_site.specs.Crash.{GoesOn}
 use Rattle.tup_site.specs.Edit.{edited}
 use Rattle.tup_site.specs.History.{at_first, after, after_all}

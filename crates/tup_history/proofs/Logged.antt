@@ -1,5 +1,5 @@
 -- The log of an update of a kept project is true, where there are no reporters.
-use Rattle.std.proofs.Common.{◌≡◌, ◌⊎◌, inl, inr, ℕ, Bool, List, [], sym, subst, ◌∙◌}
+use Rattle.std.proofs.Common.{◌≡◌, ◌⊎◌, inl, inr, ℕ, Bool, List, [], subst, ◌∙◌}
 use Rattle.tup_site.specs.World.{World}
 use Rattle.tup_site.specs.Memory.{world_in}
 use Rattle.tup_site.specs.contracts.memory_calls.MemSiteSite.TheImpl as memory
@@ -8,7 +8,7 @@ use Rattle.tup_rule.specs.declared.rule.RuleName.{RuleName}
 use Rattle.tup_runner.specs.declared.runner.Runner.{Ghosts as Runner}
 use Rattle.tup_tell.specs.declared.event.Event.{Event}
 use Rattle.tup_promise.specs.Kept.{KeptHere}
-use Rattle.tup_top.specs.Printed.{Ends, IsDone, hears_none}
+use Rattle.tup_top.specs.Printed.{Ends, IsDone}
 use Rattle.tup_top.specs.Status.{status_of}
 use Rattle.tup_top.specs.Telling.{Hears, TellsUpdate}
 use Rattle.tup_top.specs.Truth.{IsTrueLog}

@@ -1,5 +1,5 @@
 -- A project stays kept by every run of the program that is no update.
-use Rattle.std.proofs.Common.{◌≡◌, ◌⊎◌, ⊎_elim, inl, inr, Bool, IsTrue, Option, ℕ, List, [], ◌∷◌, ◌++◌, Some, Ok, Err, sym, ap, subst, ◌∙◌}
+use Rattle.std.proofs.Common.{◌≡◌, ◌⊎◌, ⊎_elim, inl, inr, Bool, IsTrue, ℕ, List, [], ◌∷◌, ◌++◌, Some, Ok, Err, sym, ap, subst, ◌∙◌}
 use Rattle.tup_site.specs.Crash.{GoesOn, PinsStore}
 use Rattle.tup_site.specs.Laws.{present_law}
 use Rattle.tup_site.specs.Memory.{world_in, tree_in, store_in, known_in, moment_of, left_since}

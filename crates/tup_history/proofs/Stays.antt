@@ -1,6 +1,5 @@
 -- A project stays kept, turn after turn.
-use Rattle.std.proofs.Common.{ℕ, Bool, List, [], ◌∷◌, length, take, Option, None, Some, Ok, Err, sym, subst}
-use Rattle.tup_path.specs.Name.{Names, Content}
+use Rattle.std.proofs.Common.{ℕ, Bool, List, [], ◌∷◌, length, take, Option, Ok, Err, sym, subst}
 use Rattle.tup_site.specs.Memory.{world_in}
 use Rattle.tup_site.specs.World.{World}
 use Rattle.tup_site.specs.declared.choice.Deed.TheVariants.{Edit, Crash}

@@ -1,5 +1,5 @@
 -- What the runners and the sink tell of a run, by what the program promises of each run.
-use Rattle.std.proofs.Common.{◌≡◌, Bool, IsTrue, true, false, ℕ, List, drop, map, take, Option, None, Some, Ok, Err, refl, sym, ap, subst, ◌∙◌}
+use Rattle.std.proofs.Common.{◌≡◌, Bool, IsTrue, true, false, ℕ, List, drop, map, take, Option, Some, Ok, Err, refl, sym, ap, subst, ◌∙◌}
 use Rattle.std.proofs.lemmas.List.{drop-map, take-map}
 use Rattle.std.proofs.lemmas.Option.{none-some, same_Some}
 use Rattle.tup_path.specs.Name.{Names}

@@ -1,5 +1,5 @@
 -- The events of an update tell each of its rules.
-use Rattle.std.proofs.Common.{◌≡◌, ℕ, Bool, List, [], ◌∷◌, ◌++◌, map, Option, None, Some, refl, sym, ap, subst, ◌∙◌}
+use Rattle.std.proofs.Common.{◌≡◌, ℕ, List, [], ◌∷◌, ◌++◌, map, None, Some, refl, sym, ap, subst, ◌∙◌}
 use Rattle.std.specs.Prelude.{filter}
 use Rattle.tup_path.specs.Name.{Names}
 use Rattle.tup_site.specs.declared.fault.SiteFailed.TheVariants.{Fault, TooLarge, Memory}
@@ -13,7 +13,6 @@ use Rattle.tup_promise.specs.declared.log.EndedRule.{EndedRule}
 use Rattle.tup_promise.specs.declared.log.Log.{Log}
 use Rattle.tup_promise.specs.declared.log.Step.{Step}
 use Rattle.tup_promise.specs.declared.log.Step.TheVariants.{Begin, End}
-use Rattle.tup_promise.specs.declared.stop.Stop.{Stop}
 use Rattle.tup_promise.specs.declared.stop.Stop.TheVariants.{NoStore, BadStore, Sources, UserFile, Bad, Run, Full, Outside}
 use Rattle.tup_top.specs.Telling.{EachIsTold, TellsEach, end_event, step_events}
 

@@ -1,4 +1,4 @@
-use Rattle.std.proofs.Common.{◌≡◌, ◌==◌, ◌++◌, ℕ, Bool, Ok, true, List, [], append-nil, length, map, sym, ap, subst, ◌∙◌}
+use Rattle.std.proofs.Common.{◌≡◌, ◌==◌, ℕ, Bool, Ok, true, List, append-nil, length, map, sym, ap, subst, ◌∙◌}
 use Rattle.std.specs.Prelude.{vec_len}
 use Rattle.tup_path.specs.Name.{Names}
 use Rattle.tup_tell.specs.Parted.{AreCutOff, AreTold}

@@ -1,12 +1,12 @@
 use denote.Param.Send.{sendable}
-use Rattle.std.proofs.Common.{ℕ, ◌≡◌, [], true, false, refl, subst}
+use Rattle.std.proofs.Common.{false, refl, subst}
 use Rattle.std.proofs.Crossing.{crosses}
 use Rattle.tup_site.specs.World.{World}
 use Rattle.tup_demo.specs.Steady.{world_in}
 use Rattle.tup_demo.specs.contracts.steady_calls.SteadySiteSite.TheImpl as steady
 use Rattle.tup_demo.proofs.steady.SteadySite.TheSendSync as of_site
 use Rattle.tup_mini.proofs.mini.Mini.TheSendSync as of_mini
-use Rattle.tup_top.specs.Printed.{SaysWhyOf, demo_world}
+use Rattle.tup_top.specs.Printed.{SaysWhyOf}
 use Rattle.tup_top.specs.Promise.{OpensStore}
 use Rattle.tup_top.specs.Status.{IfCame}
 use Rattle.tup_top.proofs.Demo.{demo_cause, demo_counts}

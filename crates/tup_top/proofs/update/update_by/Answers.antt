@@ -1,4 +1,4 @@
-use Rattle.std.proofs.Common.{◌≡◌, ℕ, ◌<◌, List, drop, length, map, take, Some, inl, refl, sym, ap, subst, ◌∙◌, arith}
+use Rattle.std.proofs.Common.{ℕ, List, map, take, Some, inl, refl, sym, ap, subst, arith}
 use Rattle.std.proofs.lemmas.Option.{none-some}
 use Rattle.tup_site.specs.World.{TreeStays}
 use Rattle.tup_site.specs.declared.fault.SiteFailed.TheVariants.{Memory as NoMemory}
@@ -9,7 +9,7 @@ use Rattle.tup_promise.specs.Ran.{CrewRuns}
 use Rattle.tup_promise.specs.declared.stop.Stop.TheVariants.{Outside}
 use Rattle.tup_ends.proofs.Staying.{sources_kept}
 use Rattle.tup_top.specs.Printed.{PrintsUpdate, SaysWhyOf}
-use Rattle.tup_top.specs.Promise.{HasCrewCause, Logs}
+use Rattle.tup_top.specs.Promise.{Logs}
 use Rattle.tup_top.specs.Status.{IfCame}
 use Rattle.tup_top.specs.Telling.{Hears, TellsUpdate}
 use Rattle.tup_top.specs.Truth.{IsTrueLog}

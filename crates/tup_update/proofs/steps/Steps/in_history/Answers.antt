@@ -1,6 +1,5 @@
 use Rattle.std.proofs.Common.{◌+◌, drop, sym, subst, ◌∙◌}
 use Rattle.std.proofs.lemmas.List.{drop_all}
-use Rattle.tup_update.specs.declared.steps.Steps.{Steps}
 use Rattle.tup_update.proofs.Stepping.{IsTakingSteps, all_steps, next_event, no_steps, none_taken, one_taken, room_for_one}
 use Rattle.tup_update.proofs.steps.Steps.in_history.Goals.{in-Some, in_default}
 use Rattle.tup_update.proofs.steps.Steps.in_history.Goals as goal
