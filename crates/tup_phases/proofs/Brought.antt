@@ -41,9 +41,10 @@ use Rattle.tup_law_phases.proofs.Fitting.{refresh_brings}
 use Rattle.tup_law_phases.proofs.Seen.{is_tree, knows_sources, sees}
 use Rattle.tup_law_phases.proofs.Tupfiles.{is_language}
 use Rattle.tup_law_phases.proofs.Unchanged.{comes_to}
+use Rattle.tup_promise.specs.Did.{IsNoted}
 use Rattle.tup_promise.specs.Kept.{AsksFor, OfGraph}
 use Rattle.tup_promise.specs.Needed.{IsDue}
-use Rattle.tup_phases.specs.Kept.{BringsNothing, IsBrought, IsNoted, KeepsRun, KeepsRuns, StaysBrought}
+use Rattle.tup_phases.specs.Kept.{BringsNothing, IsBrought, KeepsRun, KeepsRuns, StaysBrought}
 use Rattle.tup_phases.specs.Prepared.{HasSeen}
 use Rattle.tup_phases.proofs.Users.{still_unmade, swap_unmade}
 

@@ -1,5 +1,5 @@
 -- The folders whose readings are swapped in are those that have to be read in the world that was there first.
-use Rattle.std.proofs.Common.{◌≡◌, List, map, Option, Ok, sym, subst}
+use Rattle.std.proofs.Common.{◌≡◌, List, map, Option, Ok, refl, sym, subst}
 use Rattle.std.specs.FinMap as finite
 use Rattle.tup_path.specs.Name.{Names, Content}
 use Rattle.tup_path.specs.Tree.{Tree}
@@ -11,9 +11,8 @@ use Rattle.tup_ledger.specs.Sources.{sources_of}
 use Rattle.tup_rule_diff.specs.Edits.{dir_of}
 use Rattle.tup_refresh.specs.Refresh.{IsRefresh}
 use Rattle.tup_refresh.specs.declared.refreshed.Refreshed.{Refreshed}
-use Rattle.tup_promise.specs.Did.{HasNoted, ReadsWhatIsDue}
+use Rattle.tup_promise.specs.Did.{HasNoted, IsNoted, IsScannedFrom, ReadsWhatIsDue}
 use Rattle.tup_promise.proofs.Reading.{reads_due}
-use Rattle.tup_phases.specs.Kept.{IsNoted, IsScannedFrom}
 use Rattle.tup_phases.specs.Prepared.{HasSeen}
 
 -- the graph of a world was scanned while its files were as they were first
@@ -27,7 +26,7 @@ noted_since first mid now was g config stored scanned is before stays = record {
 
 module _ (first now : World) (g : GraphState) (noted : IsNoted first now g) (seen : HasSeen g now.tree) where
   has_noted : HasNoted first g
-  has_noted = record { was = noted.was; stored = noted.stored; files = noted.scanned.0; scanned = noted.scanned.1; seen = subst (HasSeen g) noted.tree seen }
+  has_noted = record { noted = record { was = noted.was; stored = noted.stored; scanned = noted.scanned; tree = refl }; seen = subst (HasSeen g) noted.tree seen }
 
   pub reads_these : (found : Refreshed) (read : List Names) → IsRefresh g (sources_of g now.tree) (Ok found) → read ≡ map dir_of found.fresh → ReadsWhatIsDue first read
   reads_these found read refreshed are =

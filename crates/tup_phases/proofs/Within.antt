@@ -40,8 +40,9 @@ use Rattle.tup_stale.specs.Unmade.{unmade}
 use Rattle.tup_law_board.proofs.Cleared.{IsAfter, doomed_at}
 use Rattle.tup_law_phases.specs.Language.{tupfiles}
 use Rattle.tup_law_phases.proofs.Tupfiles.{is_language}
+use Rattle.tup_promise.specs.Did.{IsScannedFrom}
 use Rattle.tup_promise.specs.States.{IsNewlyOwned, StateStays}
-use Rattle.tup_phases.specs.Kept.{HoldsWithin, IsBrought, IsKeptSince, IsScannedFrom, StaysWithin}
+use Rattle.tup_phases.specs.Kept.{HoldsWithin, IsBrought, IsKeptSince, StaysWithin}
 use Rattle.tup_phases.specs.Prepared.{HasSeen}
 use Rattle.tup_phases.proofs.Keeping.{over}
 

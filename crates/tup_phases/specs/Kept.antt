@@ -1,19 +1,16 @@
 -- What the phases make of a site that was kept (own).
-use Rattle.std.specs.Prelude.{◌≡◌, ◌⊎◌, ◌↔◌, ⊤, ℕ, ◌≤◌, true, false, List, [], Option, None, Some}
+use Rattle.std.specs.Prelude.{◌≡◌, ◌⊎◌, ◌↔◌, ⊤, ℕ, ◌≤◌, true, false, [], None, Some}
 use Rattle.std.specs.FinMap as finite
-use Rattle.tup_path.specs.Name.{Names, Content}
-use Rattle.tup_stamp.specs.declared.Stamp.{Stamp}
+use Rattle.tup_path.specs.Name.{Names}
 use Rattle.tup_site.specs.World.{World, TreeStays}
 use Rattle.tup_site.specs.declared.fault.SiteFailed.TheVariants.{Fault, TooLarge, Memory}
 use Rattle.tup_site.specs.declared.site.Site.{Ghosts as Site}
 use Rattle.tup_rule.specs.Rule.{is_generated}
 use Rattle.tup_rule.specs.declared.rule.Rule.{Rule}
 use Rattle.tup_runner.specs.Next.{Next}
-use Rattle.tup_graph.specs.Answers.{tup_config}
 use Rattle.tup_graph.specs.declared.owned.Owned.{Owned}
 use Rattle.tup_graph.specs.Graph.{GraphState, is_flagged}
 use Rattle.tup_graph.specs.Kept.{IsGraphIn, IsKeptSite, IsRuleAt}
-use Rattle.tup_graph.specs.Scan.{IsScanned}
 use Rattle.tup_graph.specs.Swap.{IsNew}
 use Rattle.tup_refresh.specs.declared.refreshed.Refreshed.{Refreshed}
 use Rattle.tup_law_phases.specs.Language.{tupfiles}
@@ -44,17 +41,6 @@ abbrev pub KeepsOn : {S : Type 0} → Site S → S → S → Type 0
 KeepsOn {S} site old new = (next : Next) (first : World) (since : ℕ) → IsKeptSince site next first since old → IsKeptSince site next first since new
 
 -- ---- the graph
-
--- a graph is the one that a scan leaves of another, which found this in tup.config
-abbrev pub IsScannedFrom : GraphState → Option Content → GraphState → Type 0
-IsScannedFrom old config new = (files : List (Names × Stamp)) × IsScanned old files config new
-
--- the graph of a world was scanned, and since then no file changed
-pub record IsNoted (first now : World) (g : GraphState) : Type 0 where
-  pub was : GraphState
-  pub stored : IsGraphIn first.store was
-  pub scanned : IsScannedFrom was (finite.get first.tree tup_config) g
-  pub tree : TreeStays first now
 
 -- The paths that no rule makes. One that has lost its maker was owned in the state in which it is, and none of the rules makes it;
 -- and one that was owned and that none of the rules makes is owned in that state, and has no maker.

@@ -12,8 +12,8 @@ ghost use Rattle.tup_stored_graph.specs.Held.{is_fresh, StandsFor};
 ghost use Rattle.tup_refresh.specs.Refresh.{AreSorted, IsRefresh};
 ghost use Rattle.tup_promise.specs.Cause.{HasCountedCause};
 ghost use Rattle.tup_promise.specs.Crashes.{OwnsNoMore};
-ghost use Rattle.tup_promise.specs.Did.{ReadsWhatIsDue};
-ghost use Rattle.tup_phases.specs.Kept.{BlamesSources, BringsNothing, HoldsWithin, IsBrought, IsKeptSince, IsNoted, LeavesFiles};
+ghost use Rattle.tup_promise.specs.Did.{IsNoted, ReadsWhatIsDue};
+ghost use Rattle.tup_phases.specs.Kept.{BlamesSources, BringsNothing, HoldsWithin, IsBrought, IsKeptSince, LeavesFiles};
 ghost use Rattle.tup_phases.specs.Prepared.{HasSeen, RunsNone, StopsReading};
 ghost use Rattle.tup_phases.specs.Room.{FillsStore};
 

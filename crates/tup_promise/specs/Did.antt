@@ -1,9 +1,9 @@
 -- Which Tupfiles an update reads, and which files it removes: just those that it has to (own).
 use Rattle.std.specs.Prelude.{◌≡◌, ◌⊎◌, ◌↔◌, true, false, List, [], Option, None, Some, Ok, Contains, is_some}
 use Rattle.std.specs.FinMap as finite
-use Rattle.tup_path.specs.Name.{Names}
+use Rattle.tup_path.specs.Name.{Names, Content}
 use Rattle.tup_stamp.specs.declared.Stamp.{Stamp}
-use Rattle.tup_site.specs.World.{World}
+use Rattle.tup_site.specs.World.{World, TreeStays}
 use Rattle.tup_rule.specs.Rule.{is_generated}
 use Rattle.tup_rule.specs.declared.question.Reading.{Reading}
 use Rattle.tup_rule.specs.declared.rule.Rule.{Rule}
@@ -25,13 +25,21 @@ use Rattle.tup_promise.specs.declared.stop.Stop.TheVariants.{NoStore, BadStore, 
 
 -- ---- Tupfiles
 
+-- a graph is the one that a scan leaves of another, which found this in tup.config
+abbrev pub IsScannedFrom : GraphState → Option Content → GraphState → Type 0
+IsScannedFrom old config new = (files : List (Names × Stamp)) × IsScanned old files config new
+
+-- the graph of a world was scanned, and since then no file changed
+pub record IsNoted (first now : World) (g : GraphState) : Type 0 where
+  pub was : GraphState
+  pub stored : IsGraphIn first.store was
+  pub scanned : IsScannedFrom was (finite.get first.tree tup_config) g
+  pub tree : TreeStays first now
+
 -- The graph that the store of a world comes to once the files of that world are noted in it: it has seen each file as it is and no
 -- others, and the folders and rules that this touches are marked.
 pub record HasNoted (w : World) (g : GraphState) : Type 0 where
-  pub was : GraphState
-  pub stored : IsGraphIn w.store was
-  pub files : List (Names × Stamp)
-  pub scanned : IsScanned was files (finite.get w.tree tup_config) g
+  pub noted : IsNoted w w g
   pub seen : (path : Names) → finite.get g.seen path ≡ stamp_in w.tree path
 
 -- Just these folders are those of a world whose Tupfile has to be read, in the order of paths, each once: the folder has a Tupfile,

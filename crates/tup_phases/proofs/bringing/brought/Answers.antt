@@ -4,7 +4,7 @@ use Rattle.std.specs.FinMap as finite
 use Rattle.tup_graph.specs.Answers.{tup_config}
 use Rattle.tup_site.specs.Cause.{IsTooLarge}
 use Rattle.tup_refresh.specs.Cause.{IsRefreshOf}
-use Rattle.tup_phases.specs.Kept.{BlamesSources, BringsNothing, IsNoted}
+use Rattle.tup_phases.specs.Kept.{BlamesSources, BringsNothing}
 use Rattle.tup_phases.proofs.Blaming.{refresh_blames}
 use Rattle.tup_phases.proofs.Within.{over_within, scan_within}
 use Rattle.tup_path.specs.Tree.{Tree}
@@ -20,6 +20,7 @@ use Rattle.std.specs.Result.{result_err}
 use Rattle.tup_site.specs.Crash.{NoStep}
 use Rattle.tup_site.specs.World.{World}
 use Rattle.tup_promise.specs.Cause.{HasCountedCause}
+use Rattle.tup_promise.specs.Did.{IsNoted}
 use Rattle.tup_promise.specs.Stopped.{stop_of_refresh}
 use Rattle.tup_promise.proofs.Handed.{err_if, err_so}
 use Rattle.tup_phases.specs.Prepared.{StopsReading}

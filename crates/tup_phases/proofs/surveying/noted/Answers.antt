@@ -8,7 +8,8 @@ use Rattle.tup_graph.specs.Graph.{GraphState}
 use Rattle.tup_graph.specs.Kept.{IsGraphIn}
 use Rattle.tup_promise.specs.Cause.{HasCountedCause}
 use Rattle.tup_promise.proofs.Handed.{err_if, err_so}
-use Rattle.tup_phases.specs.Kept.{BlamesSources, IsScannedFrom}
+use Rattle.tup_promise.specs.Did.{IsScannedFrom}
+use Rattle.tup_phases.specs.Kept.{BlamesSources}
 use Rattle.tup_phases.specs.Prepared.{StopsReading}
 use Rattle.tup_phases.proofs.Keeping.{files_both, trees_both}
 use Rattle.tup_phases.proofs.Stopping.{counted_before}
