@@ -133,7 +133,7 @@ module _ {S : Type 0} (b : BoardState S) (none : b.lost ≡ None) (g : GraphStat
   names = kept.writes
 
   -- the flags: its own is gone
-  unflagged_on : (m : ℕ) → is_flagged g m ≡ false → is_flagged done m ≡ false
+  pub unflagged_on : (m : ℕ) → is_flagged g m ≡ false → is_flagged done m ≡ false
   unflagged_on m was =
       elim (same_or_other m number) [
         | inl same ↦ subst (λ (n : ℕ). is_flagged done n ≡ false) (sym same) (flag_here began number rule in_graph run names)

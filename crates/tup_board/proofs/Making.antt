@@ -57,9 +57,9 @@ use Rattle.tup_board.specs.Come.{HasComeTo, IsPresent, WasToKeep}
 use Rattle.tup_board.specs.Ends.{CouldEnd, HasEnded, IsRecordOf}
 use Rattle.tup_board.specs.Images.{IsImageOver, LeavesImages, StandsUnmade}
 use Rattle.tup_board.specs.Outputs.{IsPending, Makes}
-use Rattle.tup_board.specs.Sound.{IsImage, IsSound, IsTrueFault, WasToHappen, Since, Before}
+use Rattle.tup_board.specs.Sound.{FlagsPending, IsImage, IsSound, IsTrueFault, WasToHappen, Since, Before}
 use Rattle.tup_board.proofs.Coming.{outputs_are}
-use Rattle.tup_board.proofs.Finishing.{claimed, come_begun, come_done, come_then, flagged, in_graph, other_outputs, placed, present_done, same_or_other}
+use Rattle.tup_board.proofs.Finishing.{claimed, come_begun, come_done, come_then, flagged, in_graph, other_outputs, placed, present_done, same_or_other, unflagged_on}
 use Rattle.tup_board.proofs.Imaging.{begun_unmade, done_unmade, is_begun, is_done, not_begun, not_begun_unmade}
 use Rattle.tup_board.proofs.Known.{honest_known, keeps_all, known_among}
 use Rattle.tup_board.proofs.WasRead.{rose_on, rose_since}
@@ -312,25 +312,45 @@ module _ {S R : Type 0} (site : Site S) (runner : Runner R) (b : BoardState S) (
           let made = image_step image.0 from.0 w image.2 (stored told from.0 from.1) from.2 in
           (image.0, image.1, made.0, made.1)
 
-      -- and what a crash may leave once a commit was lost
-      image_lost : IsTrue site.tells → (u w : World) → site.left_since b.site (site.moment b.site) u → LostStep tried g number run files (site.world b.site) (site.world new.site) u w
-          → (v : World) × Before site b v × (h : GraphState) × IsImageOver then_board v w h × StandsUnmade then_board (site.world b.opening.site) (site.world new.site) h
-      image_lost told u w left lost = by lost
+      -- a rule that is flagged once its rule has ended was flagged before
+      flagged_still : (m : ℕ) → is_flagged (finished (begun g number) number run) m ≡ true → is_flagged g m ≡ true
+      flagged_still m on = by (is_flagged g m) refl
         where
+          by : (flag : Bool) → is_flagged g m ≡ flag → is_flagged g m ≡ true
+          by true is = is
+          by false is = absurd (true≢false (sym on ∙ unflagged_on b none g rules_are one_maker in_order at_present seat number run kept m is))
+
+      -- and what a crash may leave once a commit was lost, where what was pending is
+      image_lost : IsTrue site.tells → ((m : ℕ) → (state b).pending m ≡ true → (state then_board).pending m ≡ true) → (u w : World) → site.left_since b.site (site.moment b.site) u → LostStep tried g number run files (site.world b.site) (site.world new.site) u w
+          → (v : World) × Before site b v × (h : GraphState) × IsImageOver then_board v w h × StandsUnmade then_board (site.world b.opening.site) (site.world new.site) h × FlagsPending then_board h
+      image_lost told pends u w left lost = by lost
+        where
+          was_pending : (m : ℕ) → is_flagged g m ≡ true → (state then_board).pending m ≡ true
+          was_pending m on = pends m (sym (at_present.flags m) ∙ on)
+
           image : (v : World) × Before site b v × IsImageOver b v u g
           image = image_before told u left
 
           store : IsStoreOf g u.store
           store = stored told u left
 
-          by : LostStep tried g number run files (site.world b.site) (site.world new.site) u w → (v : World) × Before site b v × (h : GraphState) × IsImageOver then_board v w h × StandsUnmade then_board (site.world b.opening.site) (site.world new.site) h
-          by (inl (tree, not)) = (image.0, image.1, g, image_not image.0 u w image.2 store not, unmade_not (site.world b.opening.site) (site.world b.site) (site.world new.site) (image_was told) (store_was told) tree)
+          by : LostStep tried g number run files (site.world b.site) (site.world new.site) u w
+              → (v : World) × Before site b v × (h : GraphState) × IsImageOver then_board v w h × StandsUnmade then_board (site.world b.opening.site) (site.world new.site) h × FlagsPending then_board h
+          by (inl (tree, not)) = (
+            image.0,
+            image.1,
+            g,
+            image_not image.0 u w image.2 store not,
+            unmade_not (site.world b.opening.site) (site.world b.site) (site.world new.site) (image_was told) (store_was told) tree,
+            was_pending,
+          )
           by (inr (inl began)) = (
             image.0,
             image.1,
             begun g number,
             image_begun image.0 u w image.2 store began,
             unmade_begun (site.world b.opening.site) (site.world b.site) (site.world new.site) (image_was told) (store_was told) (beside_now told),
+            was_pending,
           )
           by (inr (inr ended)) = (
             image.0,
@@ -338,6 +358,7 @@ module _ {S R : Type 0} (site : Site S) (runner : Runner R) (b : BoardState S) (
             finished (begun g number) number run,
             image_ended image.0 u w image.2 store ended,
             unmade_ended (site.world b.opening.site) (site.world b.site) (site.world new.site) (image_was told) (store_was told) (beside_now told),
+            λ m on. was_pending m (flagged_still m on),
           )
 
       images_now : IsTrue site.tells → LeavesImages then_board (Before site then_board) (Since site then_board)
@@ -355,18 +376,18 @@ module _ {S R : Type 0} (site : Site S) (runner : Runner R) (b : BoardState S) (
           ]
 
       -- ---- a lost commit was to happen
-      could_end : ((commit : Lost) → new.lost ≡ Some commit → (state then_board).pending number ≡ true) → (commit : Lost) → new.lost ≡ Some commit → WasToHappen site runner then_board commit
+      could_end : ((commit : Lost) → new.lost ≡ Some commit → (m : ℕ) → (state b).pending m ≡ true → (state then_board).pending m ≡ true) → (commit : Lost) → new.lost ≡ Some commit → WasToHappen site runner then_board commit
       could_end still commit lost =
           let loses = makes.lost commit lost in record {
             cause = λ by.
                 ⊎_elim (λ rises. rose_since (site.faults b.opening.site) (site.faults b.site) (site.faults new.site) sound.counted rises) (λ was. absurd (none-some was.0 was.1))
                 (counts.site (loses.fault ∙ ap Err (lost_by_site commit by)));
-            pending = ap (state then_board).pending loses.rule ∙ still commit lost;
+            pending = ap (state then_board).pending loses.rule ∙ still commit lost number is_pending;
             run = λ ran ran_is.
                 let tries : commit.run ≡ Some run = ⊎_elim (λ began. absurd (none_or_run ran (sym began ∙ ran_is))) (λ kept. kept) loses.kept in
                 let same : run ≡ ran = same_run run ran (sym tries ∙ ran_is) in
                 could commit.rule (sym loses.rule) ran same (inr (commit, lost, tries));
-            torn = λ told w left. let from = makes.torn commit lost told w left in image_lost told from.0 w from.1 from.2;
+            torn = λ told w left. let from = makes.torn commit lost told w left in image_lost told (still commit lost) from.0 w from.1 from.2;
           }
         where
           could : (m : ℕ) → number ≡ m → (ran : RunRecord) → run ≡ ran → tried
@@ -424,7 +445,8 @@ module _ {S R : Type 0} (site : Site S) (runner : Runner R) (b : BoardState S) (
       pub sound_then : IsRun (plan_of b) (start b) hist
           → (IsTrue site.tells → IsTrue runner.tells → IsHonest runner.next (site.known new.site) (plan_of b) (start b) hist)
           → (IsTrue site.tells → (path : Names) → (IsPending (plan_of b) (state then_board) path → ⊥) → option_map stamp (finite.get (site.world new.site).tree path) ≡ (state then_board).files path)
-          → (new.lost ≡ None → IsPresent then_board new.graph.nodes) → ((commit : Lost) → new.lost ≡ Some commit → (state then_board).pending number ≡ true) → IsSound site runner then_board
+          → (new.lost ≡ None → IsPresent then_board new.graph.nodes)
+          → ((commit : Lost) → new.lost ≡ Some commit → (m : ℕ) → (state b).pending m ≡ true → (state then_board).pending m ≡ true) → IsSound site runner then_board
       sound_then runs honest files_are presents still = record {
         opening = record { fresh = sound.opening.fresh; stands = sound.opening.stands; seen = sound.opening.seen; plan = sound.opening.plan; apart = sound.opening.apart };
         run = runs;
@@ -469,7 +491,7 @@ module _ {S R : Type 0} (site : Site S) (runner : Runner R) (b : BoardState S) (
     sound_refused =
         sound_then b.history [] whole_is (λ m is. is) (λ m is. is) refl never_ok sound.run
         (λ told means. honest_known (site.known b.site) (site.known new.site) (more_known told) runner.next (plan_of b) (start b) b.history (sound.honest told means))
-        (λ told path free. ap (option_map stamp) (beside_now told path (not_own path free)) ∙ sound.files told path free) present_so (λ commit lost. is_pending)
+        (λ told path free. ap (option_map stamp) (beside_now told path (not_own path free)) ∙ sound.files told path free) present_so (λ commit lost m was. was)
 
     -- ---- and the refusal is true
     still_fresh : fault ≡ fault_by.Full → new.lost ≡ None

@@ -175,7 +175,7 @@ module _ {S R : Type 0} (site : Site S) (runner : Runner R) (board : BoardState 
       cause = was.cause;
       pending = pending_is commit.rule ∙ was.pending;
       run = λ run kept. could_on commit.rule run (IsTrue site.tells × IsTrue runner.tells) (EndsHonestly runner.next (site.known board.site)) (was.run run kept);
-      torn = λ told w left. let image = was.torn told w left in (image.0, image.1, image.2, image_on image.0 w image.2 image.3, image.4);
+      torn = λ told w left. let image = was.torn told w left in (image.0, image.1, image.2, image_on image.0 w image.2 image.3, image.4, λ number on. pending_is number ∙ image.5 number on);
     };
     now = λ told. let image = sound.now told in (image.0, image_on _ _ image.0 image.1);
     images = λ told w left. let image = sound.images told w left in (image.0, image.1, image.2, image_on image.0 w image.2 image.3);

@@ -125,6 +125,7 @@ module _ {S R : Type 0} (site : Site S) (runner : Runner R) (b : BoardState S) (
             image.2,
             image_read image.0 w image.2 image.3,
             subst (λ (present : World). StandsUnmade read (site.world b.opening.site) present image.2) (sym (same told)) image.4,
+            image.5,
           );
     };
     now = λ told. let image = sound.now told in (image.0, image_read _ _ image.0 (subst (λ (w : World). IsImageOver b (site.world b.opening.site) w image.0) (sym (same told)) image.1));

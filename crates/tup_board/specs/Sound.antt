@@ -11,7 +11,7 @@ use Rattle.tup_site.specs.World.{World}
 use Rattle.tup_site.specs.declared.site.Site.{Ghosts as Site}
 use Rattle.tup_runner.specs.declared.runner.Runner.{Ghosts as Runner}
 use Rattle.tup_record.specs.declared.run.RunRecord.{RunRecord}
-use Rattle.tup_graph.specs.Graph.{GraphState}
+use Rattle.tup_graph.specs.Graph.{GraphState, is_flagged}
 use Rattle.tup_stored_graph.specs.Held.{is_fresh, StandsFor}
 use Rattle.tup_core.specs.declared.event.Cause.{Cause}
 use Rattle.tup_core.specs.Honest.{IsHonest, EndsHonestly}
@@ -47,6 +47,10 @@ Since site board w = site.left_since board.site (site.moment board.opening.site)
 abbrev pub Before : {S : Type 0} → Site S → BoardState S → World → Type 0
 Before site board w = site.left_since board.opening.site (site.moment board.opening.site) w
 
+-- a rule that is flagged in a graph is still pending
+abbrev pub FlagsPending : {S : Type 0} → BoardState S → GraphState → Type 0
+FlagsPending board g = (number : ℕ) → is_flagged g number ≡ true → (state board).pending number ≡ true
+
 -- a lost commit was to keep a run that a command had come to, and that its runner means; its rule is still to be run; and
 -- where it was lost by the site, that failed
 pub record WasToHappen {S R : Type 0} (site : Site S) (runner : Runner R) (board : BoardState S) (commit : Lost) : Type 0 where
@@ -55,9 +59,9 @@ pub record WasToHappen {S R : Type 0} (site : Site S) (runner : Runner R) (board
   pub run : (run : RunRecord) → commit.run ≡ Some run → CouldEnd (plan_of board) (start board) board.history commit.rule run
       (IsTrue site.tells × IsTrue runner.tells) (EndsHonestly runner.next (site.known board.site))
   -- what a crash from then on may leave is an image, and by its graph what isn't made yet is unsure, or stands at present as it did
-  -- at the opening
+  -- at the opening; and a rule that isn't pending any more isn't flagged there
   pub torn : IsTrue site.tells → (w : World) → site.left_since board.site (site.moment board.site) w
-      → (v : World) × Before site board v × (g : GraphState) × IsImageOver board v w g × StandsUnmade board (site.world board.opening.site) (site.world board.site) g
+      → (v : World) × Before site board v × (g : GraphState) × IsImageOver board v w g × StandsUnmade board (site.world board.opening.site) (site.world board.site) g × FlagsPending board g
 
 -- a world is an image over one that a crash right before that might have left
 abbrev pub IsImage : {S : Type 0} → Site S → BoardState S → World → Type 0

@@ -1,9 +1,8 @@
 -- A kept graph that has run all of its rules, over a tree that is as it was seen, is that of a finished project.
-use Rattle.std.proofs.Common.{◌≡◌, ◌≢◌, ℕ, Bool, true, false, is_some, List, [], Option, None, Some, Ok, All, Contains, map, refl, sym, ap, ◌∙◌}
+use Rattle.std.proofs.Common.{◌≡◌, ◌≢◌, ℕ, Bool, true, false, is_some, List, [], Option, None, Some, Ok, Contains, refl, sym, ap, ◌∙◌}
 use Rattle.std.specs.FinMap as finite
 use Rattle.std.specs.Option.{option_map}
 use Rattle.std.proofs.lemmas.Bool.{true≢false}
-use Rattle.std.proofs.lemmas.List.Elements.{All-contains}
 use Rattle.std.proofs.lemmas.Option.{none-some, same_Some}
 use Rattle.tup_path.specs.Name.{Names, Content}
 use Rattle.tup_path.specs.Order.{by_names-total, by_names-antisymmetric}
@@ -11,35 +10,30 @@ use Rattle.tup_path.specs.Tree.{Tree}
 use Rattle.tup_site.specs.Known.{IsKnown, KnowsTree}
 use Rattle.tup_stamp.specs.declared.Stamp.{Stamp}
 use Rattle.tup_stamp.specs.Stamp.{stamp}
-use Rattle.tup_rule.specs.Rule.{among, is_generated, writes}
+use Rattle.tup_rule.specs.Rule.{is_generated, writes}
 use Rattle.tup_rule.specs.declared.rule.Rule.{Rule}
 use Rattle.tup_rule.proofs.Laws.{is_generated-at, maker-Some}
 use Rattle.tup_runner.specs.Next.{Next}
-use Rattle.tup_access.specs.Judge.{judge}
-use Rattle.tup_access.proofs.Outputs.{judge-LeavesOutputs}
 use Rattle.tup_clean.specs.Clean.{Build, clean, succeeds}
 use Rattle.tup_clean.proofs.Among.{is_generated-maker}
 use Rattle.tup_project.specs.Project.{ComeTo}
-use Rattle.tup_record.specs.declared.owned.OwnedState.TheVariants.{Written}
-use Rattle.tup_record.specs.declared.run.RunRecord.{RunRecord}
 use Rattle.tup_graph.specs.Graph.{GraphState, is_flagged, is_owned}
-use Rattle.tup_graph.specs.Kept.{HasSeenStamps, IsKept, IsRuleAt, IsUnflagged}
+use Rattle.tup_graph.specs.Kept.{IsKept, IsRuleAt}
 use Rattle.tup_graph.specs.Reach.{stamp_in}
 use Rattle.tup_graph.specs.declared.owned.Owned.{Owned}
-use Rattle.tup_graph.proofs.Keeping.{has_run, names_of}
 use Rattle.tup_ledger.specs.Sources.{sources_of}
 use Rattle.tup_law_graph.proofs.Reached.{none_left}
 use Rattle.tup_core.specs.Planned.{IsPlanned, clean_of}
 use Rattle.tup_core.specs.declared.plan.Plan.{Plan}
 use Rattle.tup_core.proofs.CleanRuns.{contents_clean, files_clean, succeeds_clean}
 use Rattle.tup_board.proofs.Openings.{stamps_of_entries}
-use Rattle.tup_law_board.proofs.Runs.{stamp_written}
 use Rattle.tup_law_phases.specs.Language.{tupfiles}
 use Rattle.tup_law_phases.specs.Planning.{kept_of}
 use Rattle.tup_law_phases.proofs.Planned.{planned}
 use Rattle.tup_law_phases.proofs.Seen.{core_knows, core_knows_tree, is_for_core}
 use Rattle.tup_law_phases.proofs.Tupfiles.{is_language}
 use Rattle.tup_promise.specs.Finished.{IsAsWritten, IsFinished}
+use Rattle.tup_ends.proofs.Again.{seen_written}
 
 module _ (next : Next) (known : List Content) (h : GraphState) (tree : Tree) (kept : IsKept next tupfiles known h) (none : (number : ℕ) → is_flagged h number ≡ false)
     (seen : (path : Names) → finite.get h.seen path ≡ stamp_in tree path) (made : (path : Names) (owned : Owned) → finite.get h.owned path ≡ Some owned → owned.maker ≢ None)
@@ -117,43 +111,14 @@ module _ (next : Next) (known : List Content) (h : GraphState) (tree : Tree) (ke
           absurd (none-some owner.0 (sym here ∙ owner.1)))
       by None here false is = refl
 
-  -- what a run wrote to an output
-  wrote_at : (number : ℕ) (rule : Rule) (run : RunRecord) (path : Names) → IsRuleAt h number rule → finite.get h.runs number ≡ Some run → writes rule path ≡ true
-      → (file : Names × Stamp) × Contains run.writes file × (file.0 ≡ path)
-  wrote_at number rule run path here ran output =
-      let honest = kept.records.runs number rule run here ran in
-      let names : map (λ (f : Names × Stamp). f.0) run.writes ≡ rule.outputs =
-      ap (map (λ (f : Names × Stamp). f.0)) (sym honest.files) ∙ names_of (judge rule honest.ended).files ∙ (judge-LeavesOutputs rule honest.ended).good honest.good in
-      let found = stamp_written run.writes (λ _. None) path (ap (among path) names ∙ output) in
-      (found.0, found.1, found.2)
-
-  -- a path has the state and the file that a run left there which still stands
-  written_so : (path : Names) (owner : Owned) (number : ℕ) (rule : Rule) (run : RunRecord) (file : Names × Stamp) → IsUnflagged h number rule → finite.get h.runs number ≡ Some run → HasSeenStamps h rule run
-      → Contains run.writes file → file.0 ≡ path → finite.get h.owned path ≡ Some owner → IsAsWritten tree path owner
-  written_so path owner number rule run file unflagged ran has wrote same here = by (kept.written number rule run unflagged ran)
-    where
-      stands : finite.get h.seen file.0 ≡ Some file.1
-      stands = All-contains (λ (f : Names × Stamp). finite.get h.seen f.0 ≡ Some f.1) run.writes file has.wrote wrote
-
-      as_owned : (owned : Owned) → finite.get h.owned file.0 ≡ Some owned → owned.state ≡ Written file.1 → owner.state ≡ Written file.1
-      as_owned owned there state = ap (λ (o : Owned). o.state) (same_Some owner owned (sym here ∙ ap (finite.get h.owned) (sym same) ∙ there)) ∙ state
-
-      by : All (λ (f : Names × Stamp). (owned : Owned) × (finite.get h.owned f.0 ≡ Some owned) × (owned.state ≡ Written f.1)) run.writes → IsAsWritten tree path owner
-      by all =
-          let one = All-contains (λ (f : Names × Stamp). (owned : Owned) × (finite.get h.owned f.0 ≡ Some owned) × (owned.state ≡ Written f.1)) run.writes file all wrote in
-          (file.1, as_owned one.0 one.1 one.2, sym (seen path) ∙ ap (finite.get h.seen) (sym same) ∙ stands)
-
+  -- and it is written with what is there
   written_is : (path : Names) (owner : Owned) → finite.get h.owned path ≡ Some owner → IsAsWritten tree path owner
   written_is path owner here = by (maker_is path owner here)
     where
-      by_run : (number : ℕ) (rule : Rule) → IsUnflagged h number rule → writes rule path ≡ true → (run : RunRecord) × (finite.get h.runs number ≡ Some run) × HasSeenStamps h rule run → IsAsWritten tree path owner
-      by_run number rule unflagged output (run, ran, has) =
-          let file = wrote_at number rule run path unflagged.here ran output in
-          written_so path owner number rule run file.0 unflagged ran has file.1 file.2 here
-
       by : (number : ℕ) × (rule : Rule) × IsRuleAt h number rule × (writes rule path ≡ true) → IsAsWritten tree path owner
       by (number, rule, there, output) =
-          by_run number rule (record { here = there; unflagged = none number }) output (has_run next tupfiles known h kept number rule (record { here = there; unflagged = none number }))
+          let written = seen_written next known h kept number rule path (record { here = there; unflagged = none number }) output in
+          (written.2, ap (λ (o : Owned). o.state) (same_Some owner written.0 (sym here ∙ written.1)) ∙ written.3, sym (seen path) ∙ written.4)
 
   pub finished : h.created ≡ finite.empty → ComeTo sources (Ok h.rules) → IsFinished next sources h tree
   finished created come = record {

@@ -1,3 +1,4 @@
+pub mod Again
 pub mod Completed
 pub mod Settled
 pub mod Done
@@ -8,4 +9,5 @@ pub mod Staying
 pub mod Blame
 pub mod Stated
 pub mod Lasting
+mod Left
 mod Room

@@ -25,7 +25,7 @@ use Rattle.tup_law_phases.specs.Language.{tupfiles}
 use Rattle.tup_promise.specs.Finished.{IsAsWritten, IsFinished, IsSettled}
 
 -- two stamps that are written at once are one
-written_one : (state : OwnedState) (one other : Stamp) → state ≡ Written one → state ≡ Written other → one ≡ other
+pub written_one : (state : OwnedState) (one other : Stamp) → state ≡ Written one → state ≡ Written other → one ≡ other
 written_one state one other mine theirs = let same : Written one ≡ Written other = sym mine ∙ theirs in cc
 
 never_unsure : (state : OwnedState) (seen : Stamp) → state ≡ Written seen → state ≡ Unsure → ⊥

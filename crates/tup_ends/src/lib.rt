@@ -18,7 +18,7 @@ pub use finished::{
 pub use full::full_is_true;
 pub use kept::{boards_are_kept, boards_leave_crashes};
 pub use needed::{
-    bad_ran_all_it_could, bad_stands_last, done_ran_all, none_ran_is_needed,
+    bad_ran_all_it_could, bad_stands_last, boards_leave_due, done_ran_all, none_ran_is_needed,
     prepared_flags_what_was_due, ran_what_was_due,
 };
 pub use sources::{boards_leave_sources, kept_sites_keep_sources};

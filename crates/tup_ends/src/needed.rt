@@ -1,17 +1,23 @@
 //! An update runs what is due, each rule at most once.
-ghost use Rattle.std.specs.Prelude.{◌≡◌, ◌++◌, ◌∷◌, [], ℕ, Bool, false, List, Option, None, Some, All, IsTrue, map};
+ghost use Rattle.std.specs.Prelude.{◌≡◌, ◌++◌, ◌∷◌, [], ℕ, Bool, false, true, List, Option, None, Some, All, IsTrue, map, slice_get};
+ghost use Rattle.std.specs.List.{IsDistinct};
+ghost use Rattle.tup_path.specs.Order.{same_path};
 ghost use Rattle.tup_site.specs.World.{World};
+ghost use Rattle.tup_rule.specs.declared.rule.Rule.{Rule};
 ghost use Rattle.tup_rule.specs.declared.rule.RuleName.{RuleName};
 ghost use Rattle.tup_runner.specs.Next.{Next};
 ghost use Rattle.tup_access.specs.declared.verdict.Verdict.{Verdict};
+ghost use Rattle.tup_table.specs.Table.{entries_in};
 ghost use Rattle.tup_graph.specs.Graph.{is_flagged};
-ghost use Rattle.tup_stored_graph.specs.Held.{Held};
+ghost use Rattle.tup_graph.specs.Opening.{IsGraphOf};
+ghost use Rattle.tup_stored_graph.specs.Held.{is_fresh, Held};
 ghost use Rattle.tup_core.specs.Run.{seat_of};
 ghost use Rattle.tup_core.specs.Sound.{IsAcyclic};
 ghost use Rattle.tup_board.specs.Board.{BoardState, plan_of, state};
 ghost use Rattle.tup_board.specs.Calls.{commands, IsOver};
 ghost use Rattle.tup_board.specs.Sound.{IsSound};
-ghost use Rattle.tup_promise.specs.Needed.{FlagsWhatWasDue, HasName, NamesAllDue, NamesAllThatCan, OnlyWhatIsNeeded, RunsAll, RunsWhatIsNeeded};
+ghost use Rattle.tup_promise.specs.Kept.{AsksFor};
+ghost use Rattle.tup_promise.specs.Needed.{FlagsWhatWasDue, HasName, IsDue, NamesAllDue, NamesAllThatCan, OnlyWhatIsNeeded, RunsAll, RunsWhatIsNeeded};
 ghost use Rattle.tup_promise.specs.Prepared.{IsPrepared};
 ghost use Rattle.tup_promise.specs.Ran.{command_of};
 ghost use Rattle.tup_promise.specs.declared.stop.Stop.{Stop};
@@ -73,6 +79,40 @@ pub fn bad_stands_last<S: Site, R: Runner>(site: &S, runner: &R)
         → (front : List RuleName) × (ran ≡ front ++ name ∷ []) }
 {
     bad_is_last();
+    let _ = site;
+    let _ = runner;
+}
+
+/// A law: what is due in what such a board leaves is pending on it still, and was due when the update began, whatever happened on
+/// the board, and whether or not its last commit was lost; and the sources ask for the same rules.
+pub fn boards_leave_due<S: Site, R: Runner>(site: &S, runner: &R)
+    ensures pending { (board : BoardState S) (first : World) (since number : ℕ) → IsTrue S.tells
+        → IsTrue R.tells → IsSound S.Site.own R.Runner.own board
+        → (IsTrue (is_fresh board.graph)
+        → IsGraphOf (entries_in board.graph.table) board.graph.nodes)
+        → IsPrepared S.Site.own R.next first since board.opening.graph board.opening.site
+        → ((number : ℕ) (rule : Rule) → slice_get (plan_of board).rules number ≡ Some rule
+        → IsDistinct same_path rule.outputs)
+        → IsDue (S.world board.site) (plan_of board).rules number
+        → (state board).pending number ≡ true }
+    ensures before { (board : BoardState S) (first : World) (since number : ℕ) → IsTrue S.tells
+        → IsTrue R.tells → IsSound S.Site.own R.Runner.own board
+        → (IsTrue (is_fresh board.graph)
+        → IsGraphOf (entries_in board.graph.table) board.graph.nodes)
+        → IsPrepared S.Site.own R.next first since board.opening.graph board.opening.site
+        → ((number : ℕ) (rule : Rule) → slice_get (plan_of board).rules number ≡ Some rule
+        → IsDistinct same_path rule.outputs)
+        → IsDue (S.world board.site) (plan_of board).rules number
+        → IsDue first (plan_of board).rules number }
+    ensures asked { (board : BoardState S) (first : World) (since : ℕ) → IsTrue S.tells
+        → IsTrue R.tells → IsSound S.Site.own R.Runner.own board
+        → (IsTrue (is_fresh board.graph)
+        → IsGraphOf (entries_in board.graph.table) board.graph.nodes)
+        → IsPrepared S.Site.own R.next first since board.opening.graph board.opening.site
+        → ((number : ℕ) (rule : Rule) → slice_get (plan_of board).rules number ≡ Some rule
+        → IsDistinct same_path rule.outputs)
+        → AsksFor (S.world board.site) (plan_of board).rules }
+{
     let _ = site;
     let _ = runner;
 }

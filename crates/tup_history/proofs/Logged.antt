@@ -27,8 +27,8 @@ answered before now came status answer (inr none) (inr (inr (is, done, rose))) =
 
 module _ {R T : Type 0} (runner : Runner R) (told : T → List Event) (faults : T → ℕ) (tellers kept failed : List T) (nobody : tellers ≡ []) where
   pub true_log : (old : MemSite) (jobs : ℕ) (site keep_going : Bool) (left : World) (ran : List RuleName) (before now : ℕ) (answer : Status) → KeptHere memory.ghosts runner old
-      → TellsUpdate jobs site keep_going (IsTrueLog memory.ghosts runner old) (Hears told faults tellers kept failed) (world_in old) left ran before now answer
-      → HasTrueLog runner.next jobs keep_going (world_in old) answer ran
+      → TellsUpdate jobs site keep_going (IsTrueLog memory.ghosts runner old left) (Hears told faults tellers kept failed) (world_in old) left ran before now answer
+      → HasTrueLog runner.next jobs keep_going (world_in old) left answer ran
   true_log old jobs site keep_going left ran before now answer here tells = record {
     log = tells.log;
     stopped = tells.stopped;
@@ -36,6 +36,7 @@ module _ {R T : Type 0} (runner : Runner R) (told : T → List Event) (faults : 
     logged = tells.logged;
     bads = tells.so.bads here;
     first = tells.so.first here;
+    left = tells.so.left here;
     did = tells.so.did here.tells (runner.next, here.kept);
     answers =
         answered before now (status_of tells.log tells.stopped) tells.status answer

@@ -18,6 +18,7 @@ use Rattle.tup_promise.specs.Blamed.{IsToBlame}
 use Rattle.tup_promise.specs.Cause.{IsWithin}
 use Rattle.tup_promise.specs.Did.{ReadAndRemoved}
 use Rattle.tup_promise.specs.Finished.{ExactlyTheFiles}
+use Rattle.tup_promise.specs.GoodEnds.{LeavesToRun}
 use Rattle.tup_promise.specs.Needed.{OnlyWhatIsNeeded}
 use Rattle.tup_promise.specs.States.{States}
 use Rattle.tup_promise.specs.Unopened.{IsReadable}
@@ -68,16 +69,18 @@ pub record Leaves (wanted : Wanted) (old new : MemSite) (status : Status) : Type
   pub known : (IsUpdate wanted → ⊥) → known_in new ≡ known_in old
   pub found_out : ForTodo wanted status (FindsOut ((next : Next) × IsKept next old) (world_in old) (world_in new))
 
--- An update of a kept world by so many runners, which answered this and began these rules, has a log that is true: of the rules that it
--- began, of the bad ones among them, and of the Tupfiles and files that it read and removed. It answers what it came to, or in the place
--- of that all was done that its lines couldn't be written, or that there was no memory.
-pub record HasTrueLog (next : Next) (jobs : ℕ) (keep_going : Bool) (old : World) (status : Status) (ran : List RuleName) : Type 0 where
+-- An update of a kept world by so many runners, which left another, answered this and began these rules, has a log that is true: of the
+-- rules that it began, of the bad ones among them, of the good ones, none of which is due in what is left, and of the Tupfiles and files
+-- that it read and removed. It answers what it came to, or in the place of that all was done that its lines couldn't be written, or that
+-- there was no memory.
+pub record HasTrueLog (next : Next) (jobs : ℕ) (keep_going : Bool) (old new : World) (status : Status) (ran : List RuleName) : Type 0 where
   pub log : Log
   pub stopped : Option Stop
   pub begun : log.ran ≡ ran
   pub logged : IsLogged jobs keep_going log stopped
   pub bads : BadEnds next old log
   pub first : BlamesFirst old log stopped
+  pub left : LeavesToRun old new log
   pub did : ReadAndRemoved old log stopped
   pub answers : (status ≡ status_of log stopped) ⊎ (status ≡ Memory) ⊎ ((status ≡ SinkFault) × IsDone (status_of log stopped))
 
@@ -88,7 +91,7 @@ pub record HasTrueLog (next : Next) (jobs : ℕ) (keep_going : Bool) (old : Worl
 pub record Updates (next : Next) (many : ℕ) (wanted : Wanted) (old new : MemSite) (status : Status) (ran : List RuleName) : Type 0 where
   pub files : ForUpdate wanted status (ExactlyTheFiles next (world_in old) (world_in new))
   pub needed : ForUpdate wanted status (OnlyWhatIsNeeded next (goes_on wanted) (used wanted many) (world_in old) (world_in new) ran)
-  pub tells : IsUpdate wanted → HasTrueLog next (used wanted many) (goes_on wanted) (world_in old) status ran
+  pub tells : IsUpdate wanted → HasTrueLog next (used wanted many) (goes_on wanted) (world_in old) (world_in new) status ran
   pub blamed : ForUpdate wanted status (IsToBlame next (world_in old) (world_in new) ran)
   pub full : ForUpdate wanted status (HasFullCause memory.ghosts old new ran)
   pub settled : ForUpdate wanted status (OnceDone (IsDurable (left_since new (moment_of new)) (world_in new)))

@@ -9,6 +9,7 @@ use Rattle.tup_rule.specs.declared.rule.RuleName.{RuleName}
 use Rattle.tup_runner.specs.Next.{Next}
 use Rattle.tup_promise.specs.BadEnds.{BadEnds, BlamesFirst}
 use Rattle.tup_promise.specs.Did.{ReadAndRemoved}
+use Rattle.tup_promise.specs.GoodEnds.{LeavesToRun}
 use Rattle.tup_promise.specs.Kept.{IsKeptBySome}
 use Rattle.tup_promise.specs.Ran.{CrewRuns}
 use Rattle.tup_promise.specs.declared.log.Log.{Log}
@@ -33,14 +34,15 @@ pub record HasRun (tells : Bool) (next : Next) (wanted : Wanted) (many : ℕ) (o
   pub others : drop (used wanted many) now ≡ drop (used wanted many) before
   pub nothing : (HasCommandsRun wanted → ⊥) → now ≡ before
 
--- what the log of an update says is true, where the project was kept, and of bad rules where the runner tells
-pub record IsTrueThere (tells : Bool) (next : Next) (old : MemSite) (log : Log) (stopped : Option Stop) : Type 0 where
+-- what the log of an update says is true that left this world, where the project was kept, and of the ends of rules where the runner tells
+pub record IsTrueThere (tells : Bool) (next : Next) (old : MemSite) (new : World) (log : Log) (stopped : Option Stop) : Type 0 where
   pub bads : IsTrue tells → IsKept next old → BadEnds next (world_in old) log
   pub first : IsTrue tells → IsKept next old → BlamesFirst (world_in old) log stopped
+  pub left : IsTrue tells → IsKept next old → LeavesToRun (world_in old) new log
   pub did : IsKeptBySome memory.ghosts old → ReadAndRemoved (world_in old) log stopped
 
 -- What a sink held before a run by a crew of so many, and holds now: it has grown by the lines of that run.
 abbrev pub HasPrinted : Bool → Next → Wanted → ℕ → MemSite → MemSite → ℕ → ℕ → List ℕ → List ℕ → Status → List RuleName → Type 0
 HasPrinted tells next wanted many old new before now held holds status ran =
-    Printed (used wanted many) memory.ghosts.tells tells (IsTrue memory.ghosts.tells × IsKeptBySome memory.ghosts old) (SaysWhyOf memory.ghosts old) (IsTrueThere tells next old) hears_none wanted next (world_in old) (world_in new) ran before now held
+    Printed (used wanted many) memory.ghosts.tells tells (IsTrue memory.ghosts.tells × IsKeptBySome memory.ghosts old) (SaysWhyOf memory.ghosts old) (IsTrueThere tells next old (world_in new)) hears_none wanted next (world_in old) (world_in new) ran before now held
     holds status

@@ -1,5 +1,5 @@
 -- A kept site stays kept while a board works on it.
-use Rattle.std.proofs.Common.{◌≡◌, ⊎_elim, ℕ, ◌≤◌, List, None, Some, IsTrue, sym, subst, ◌∙◌, inl, inr, arith}
+use Rattle.std.proofs.Common.{◌≡◌, ⊎_elim, ℕ, ◌≤◌, false, List, None, Some, IsTrue, sym, subst, ◌∙◌, inl, inr, arith}
 use Rattle.std.specs.FinMap as finite
 use Rattle.std.specs.Option.{option_map}
 use Rattle.std.specs.Prelude.{Contains}
@@ -11,7 +11,7 @@ use Rattle.tup_runner.specs.Next.{Next}
 use Rattle.tup_runner.specs.declared.runner.Runner.{Ghosts as Runner}
 use Rattle.tup_record.specs.declared.run.RunRecord.{RunRecord}
 use Rattle.tup_table.specs.Table.{entries_in}
-use Rattle.tup_graph.specs.Graph.{GraphState}
+use Rattle.tup_graph.specs.Graph.{GraphState, is_flagged}
 use Rattle.tup_graph.specs.declared.owned.Owned.{Owned}
 use Rattle.tup_graph.specs.Kept.{HoldsItsOwn, IsGraphIn, IsKept, IsKeptSite, IsKeptWorld}
 use Rattle.tup_graph.specs.Opening.{IsGraphOf}
@@ -78,12 +78,17 @@ module _ {S R : Type 0} (site : Site S) (runner : Runner R) (b : BoardState S) (
     ];
   }
 
-  -- what the graph has seen is in the tree, but for the outputs of pending rules
-  pub seen_now : b.lost ≡ None → (path : Names) → (IsPending (plan_of b) (state b) path → ⊥) → finite.get b.graph.nodes.seen path ≡ option_map stamp (finite.get (site.world b.site).tree path)
-  seen_now none path free =
+  -- what a graph has seen that has come as far is in the tree, but for the outputs of pending rules, where none is flagged that isn't pending any more
+  pub seen_come : (g : GraphState) → HasComeTo b g → ((number : ℕ) → (state b).pending number ≡ false → is_flagged g number ≡ false) → (path : Names) → (IsPending (plan_of b) (state b) path → ⊥)
+      → finite.get g.seen path ≡ option_map stamp (finite.get (site.world b.site).tree path)
+  seen_come g come flags path free =
       seen_free site runner b sound tells runner.next language (site.known b.opening.site) first since over earlier present (site.known b.site) also (sound.honest tells told) could_end held
-      b.graph.nodes (sound.present none).come (λ number done. (sound.present none).flags number ∙ done) path free
+      g come flags path free
       ∙ sym (sound.files tells path free)
+
+  -- so it is of the board's graph
+  pub seen_now : b.lost ≡ None → (path : Names) → (IsPending (plan_of b) (state b) path → ⊥) → finite.get b.graph.nodes.seen path ≡ option_map stamp (finite.get (site.world b.site).tree path)
+  seen_now none = seen_come b.graph.nodes (sound.present none).come (λ number done. (sound.present none).flags number ∙ done)
 
 -- ---- since the board was made
 module _ {S R : Type 0} (site : Site S) (runner : Runner R) (b : BoardState S) (sound : IsSound site runner b) (tells : IsTrue site.tells) (next : Next) (language : Language) (known : List Content)
@@ -151,7 +156,7 @@ module _ {S R : Type 0} (site : Site S) (runner : Runner R) (b : BoardState S) (
       now_is : (sound.now tells).0 ≡ b.graph.nodes
       now_is = one_in_bytes (site.world b.site).store (sound.now tells).0 b.graph.nodes (in_bytes (sound.now tells).0 (site.world b.site).store (sound.now tells).1.store) (has_now (site.world b.site) present_now)
 
-      image_now : (g : GraphState) → b.graph.nodes ≡ g → IsImageOver b (site.world b.opening.site) (site.world b.site) g
+      pub image_now : (g : GraphState) → b.graph.nodes ≡ g → IsImageOver b (site.world b.opening.site) (site.world b.site) g
       image_now g same = subst (IsImageOver b (site.world b.opening.site) (site.world b.site)) (now_is ∙ same) (sound.now tells).1
 
       holds_now : (w : World) (k : GraphState) (path : Names) (owned : Owned) → LeftNow site b.site w → IsGraphIn w.store k → finite.get k.owned path ≡ Some owned → HoldsItsOwn (site.world b.site) w path owned

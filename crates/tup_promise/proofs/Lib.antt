@@ -2,4 +2,5 @@ pub mod Handed
 pub mod Limits
 pub mod Asked
 pub mod BadEnds
+pub mod GoodEnds
 pub mod Reading

@@ -12,4 +12,5 @@ pub mod States
 pub mod Prepared
 pub mod Blamed
 pub mod BadEnds
+pub mod GoodEnds
 pub mod Did

@@ -204,7 +204,7 @@ pub fn tup<W: Threads + Wait + Sync, S: Site + Send, R: Runner + Send, T: Report
         let old = S.world site in let new = S.world result.site in
         let kept = IsTrue S.tells × IsKeptBySome S.Site.own site in
         let says = SaysWhyOf S.Site.own site in
-        let holds = IsTrueLog S.Site.own R.Runner.own site in
+        let holds = IsTrueLog S.Site.own R.Runner.own site new in
         let jobs = used (order words.now) (length crew.items) in
         let hears = Hears T.told T.faults tellers.old.items tellers.new.items result.failed.items in
         Printed jobs S.tells R.tells kept says holds hears (order words.now) R.next old new
@@ -215,7 +215,7 @@ pub fn tup<W: Threads + Wait + Sync, S: Site + Send, R: Runner + Send, T: Report
         → let before = K.faults out.old in let now = K.faults out.new in
         let old = S.world site in let new = S.world result.site in
         let jobs = used (order words.now) (length crew.items) in
-        let holds = IsTrueLog S.Site.own R.Runner.own site in
+        let holds = IsTrueLog S.Site.own R.Runner.own site new in
         let hears = Hears T.told T.faults tellers.old.items tellers.new.items result.failed.items in
         TellsUpdate jobs S.tells (goes_on (order words.now)) holds hears old new result.ran
         before now result.status }

@@ -131,14 +131,14 @@ pub(crate) fn update_by<
         → let before = K.faults out.old in let now = K.faults out.new in
         let old = S.world site in let new = S.world result.site in
         let says = SaysWhyOf S.Site.own site asked.explain in
-        let holds = IsTrueLog S.Site.own R.Runner.own site in
+        let holds = IsTrueLog S.Site.own R.Runner.own site new in
         let hears = Hears T.told T.faults tellers.old.items tellers.new.items result.failed.items in
         PrintsUpdate jobs S.tells asked.keep_going says holds hears old new result.ran before now
         (K.held out.old) (K.held out.new) result.status }
     // What its reporters were told, wherever its lines went.
     ensures tells { let before = K.faults out.old in let now = K.faults out.new in
         let old = S.world site in let new = S.world result.site in
-        let holds = IsTrueLog S.Site.own R.Runner.own site in
+        let holds = IsTrueLog S.Site.own R.Runner.own site new in
         let hears = Hears T.told T.faults tellers.old.items tellers.new.items result.failed.items in
         TellsUpdate jobs S.tells asked.keep_going holds hears old new result.ran before now
         result.status }
@@ -241,14 +241,14 @@ pub(crate) fn update<
         → let before = K.faults out.old in let now = K.faults out.new in
         let old = S.world site in let new = S.world result.site in
         let says = SaysWhyOf S.Site.own site asked.explain in
-        let holds = IsTrueLog S.Site.own R.Runner.own site in
+        let holds = IsTrueLog S.Site.own R.Runner.own site new in
         let hears = Hears T.told T.faults tellers.old.items tellers.new.items result.failed.items in
         PrintsUpdate (length crew.items) S.tells asked.keep_going says holds hears old new result.ran
         before now (K.held out.old) (K.held out.new) result.status }
     // What its reporters were told, wherever its lines went.
     ensures tells { let before = K.faults out.old in let now = K.faults out.new in
         let old = S.world site in let new = S.world result.site in
-        let holds = IsTrueLog S.Site.own R.Runner.own site in
+        let holds = IsTrueLog S.Site.own R.Runner.own site new in
         let hears = Hears T.told T.faults tellers.old.items tellers.new.items result.failed.items in
         TellsUpdate (length crew.items) S.tells asked.keep_going holds hears old new result.ran
         before now result.status }

@@ -1,18 +1,16 @@
 -- What the log of an update tells of the rules whose command came to a bad verdict: all of it is true, and the first of them is blamed.
 use Rattle.std.proofs.Common.{◌≡◌, ◌≤◌, ◌<◌, ℕ, false, List, [], ◌∷◌, Option, None, Some, inl, inr, refl, sym, ap, subst, ◌∙◌}
 use Rattle.std.specs.Bool.{nat_eq}
-use Rattle.std.specs.List.{AllByRecursion, IsDistinct, cons_option, slice_get}
-use Rattle.std.specs.Option.{option_map}
+use Rattle.std.specs.List.{AllByRecursion, IsDistinct}
 use Rattle.std.specs.Prelude.{All}
 use Rattle.std.proofs.lemmas.Bool.{cases_lt, eq-eqb, true≢false}
-use Rattle.std.proofs.lemmas.List.Elements.{All-nil, All-cons, All-head, All-tail, All-weaker}
+use Rattle.std.proofs.lemmas.List.Elements.{All-nil, All-cons, All-weaker}
 use Rattle.std.proofs.lemmas.Option.{none-some, same_Some}
 use Rattle.tup_path.specs.Name.{Names}
 use Rattle.tup_stamp.specs.declared.Stamp.{Stamp}
 use Rattle.tup_site.specs.World.{World}
 use Rattle.tup_access.specs.declared.verdict.Verdict.{Verdict}
 use Rattle.tup_clean.specs.Clean.{is_good}
-use Rattle.tup_rule.specs.Rule.{label_of, name_of}
 use Rattle.tup_rule.specs.declared.rule.Rule.{Rule}
 use Rattle.tup_rule.specs.declared.rule.RuleName.{RuleName}
 use Rattle.tup_core.specs.Run.{IsRun, end_of}
@@ -35,7 +33,7 @@ use Rattle.tup_update.specs.Ended.{TellsFor, ends, ends_at, ends_from, nothing_c
 use Rattle.tup_update.proofs.Claimed.{Knows, claimed_after, knows_after, knows_none}
 use Rattle.tup_update.proofs.Ending.{noted_ended}
 use Rattle.tup_update.proofs.Logging.{ended_once, tells_front}
-use Rattle.tup_update.proofs.Telling.{End, all_front}
+use Rattle.tup_update.proofs.Telling.{End, all_front, told_each}
 
 -- a number that stands once in a list stands in no place behind the first
 distinct_parts : (number : ℕ) (rest : List ℕ) → IsDistinct nat_eq (number ∷ rest) → AllByRecursion (λ other. nat_eq number other ≡ false) rest × IsDistinct nat_eq rest
@@ -128,18 +126,6 @@ module _ (plan : Plan) where
 abbrev pub IsNotedAs : List Rule → (ℕ → Option Verdict) → EndedRule → Type 0
 IsNotedAs rules bad one = is_good (Some one.verdict) ≡ false → (number : ℕ) × HasName rules number one.rule × (bad number ≡ Some one.verdict)
 
-module _ (rules : List Rule) (state : State) where
-  one_noted : (end : End) → IsNotedIn state end → (more : List EndedRule) → All (IsNotedAs rules state.bad) more → (found : Option Rule) → slice_get rules end.0 ≡ found
-      → All (IsNotedAs rules state.bad) (cons_option (option_map (λ (rule : Rule). record { rule = name_of rule; label = label_of rule; verdict = end.1 }) found) more)
-  one_noted end noted more all None here = all
-  one_noted end noted more all (Some rule) here =
-      All-cons (IsNotedAs rules state.bad) (record { rule = name_of rule; label = label_of rule; verdict = end.1 }) more (λ bad. (end.0, (rule, here, refl), noted bad)) all
-
-  told_noted : (list : List End) → All (IsNotedIn state) list → All (IsNotedAs rules state.bad) (told_ends rules list)
-  told_noted [] noted = All-nil (IsNotedAs rules state.bad)
-  told_noted (end ∷ list) noted =
-      one_noted end (All-head (IsNotedIn state) end list noted) (told_ends rules list) (told_noted list (All-tail (IsNotedIn state) end list noted)) (slice_get rules end.0) refl
-
 -- so it is of each rule in a log that was told of a run
 pub log_noted : (plan : Plan) (files : List (Names × Stamp)) (events : List CoreEvent) → IsRun plan (opening plan files) events → (told : List EndedRule) (stopped : Option WhyStopped) → TellsFor (told_ends plan.rules (ends events)) [] told stopped
     → All (IsNotedAs plan.rules (end_of plan (opening plan files) events).bad) told
@@ -150,7 +136,7 @@ log_noted plan files events run told stopped tells =
     let front = tells_front whole [] told stopped tells in
     all_front (IsNotedAs plan.rules final.bad) told front.0
     (subst (All (IsNotedAs plan.rules final.bad)) (sym front.1)
-    (told_noted plan.rules final (ends events) (ends_noted plan events (opening plan files) nothing_claimed (knows_none plan files) run once)))
+    (told_each plan.rules (IsNotedIn final) (IsNotedAs plan.rules final.bad) (λ end rule here noted bad. (end.0, (rule, here, refl), noted bad)) (ends events) (ends_noted plan events (opening plan files) nothing_claimed (knows_none plan files) run once)))
 
 -- ---- which of them is blamed
 -- no rule that is told to be bad comes before a place before which none is noted

@@ -14,5 +14,6 @@ mod Interleaving
 mod Stepping
 mod Logging
 mod BadEnds
+mod GoodEnds
 mod Done
 pub mod Chained

@@ -31,6 +31,7 @@ use Rattle.tup_promise.specs.declared.log.Log.{Log}
 use Rattle.tup_promise.specs.declared.stop.Stop.{Stop}
 use Rattle.tup_promise.specs.declared.stop.Stop.TheVariants as stop
 use Rattle.tup_promise.proofs.BadEnds.{none_bad as no_bad_ends}
+use Rattle.tup_promise.proofs.GoodEnds.{none_good}
 use Rattle.tup_phases.specs.Kept.{BlamesSources}
 use Rattle.tup_phases.specs.Logged.{BeginsNone}
 use Rattle.tup_phases.specs.Prepared.{StopsBefore}
@@ -101,6 +102,7 @@ unchanged {S} site runner keep_going jobs graph at new log stopped due same none
       blamed = tt;
       bads = no_bad_ends runner.next (site.world old) log none.ended;
       first = tt;
+      left = none_good (site.world old) (site.world at) log none.ended none.ran;
       full = tt;
       kept = was.prepared.kept;
       settled = λ none. absurd (none-some (stop.Outside failed.Memory) (sym none));
@@ -124,6 +126,7 @@ nothing_due site runner keep_going jobs graph at log due none unflagged files se
       blamed = tt;
       bads = no_bad_ends runner.next first log none.ended;
       first = tt;
+      left = none_good first (site.world at) log none.ended none.ran;
       full = tt;
       kept = was.prepared.kept;
       settled = λ _. settled first since tells was.prepared;

@@ -94,15 +94,19 @@ module _ (rules : List Rule) where
       ∙ length-map list (λ (end : End). end.0)
 
   -- ---- and their verdicts
-  one_good : (end : End) → EndsWell end → (more : List EndedRule) → AreGood more → (found : Option Rule) →
-      AreGood (cons_option (option_map (λ (rule : Rule). record { rule = name_of rule; label = label_of rule; verdict = end.1 }) found) more)
-  one_good end well more good None = good
-  one_good end well more good (Some rule) =
-      All-cons (λ (one : EndedRule). is_good (Some one.verdict) ≡ true) (record { rule = name_of rule; label = label_of rule; verdict = end.1 }) more well good
+  -- what the end of a rule has, what is told of it has
+  module _ (Has : End → Type 0) (Tells : EndedRule → Type 0) (on : (end : End) (rule : Rule) → slice_get rules end.0 ≡ Some rule → Has end → Tells (record { rule = name_of rule; label = label_of rule; verdict = end.1 })) where
+    one_each : (end : End) → Has end → (more : List EndedRule) → All Tells more → (found : Option Rule) → slice_get rules end.0 ≡ found
+        → All Tells (cons_option (option_map (λ (rule : Rule). record { rule = name_of rule; label = label_of rule; verdict = end.1 }) found) more)
+    one_each end has more all None here = all
+    one_each end has more all (Some rule) here = All-cons Tells (record { rule = name_of rule; label = label_of rule; verdict = end.1 }) more (on end rule here has) all
+
+    pub told_each : (list : List End) → All Has list → All Tells (told_ends rules list)
+    told_each [] all = All-nil Tells
+    told_each (end ∷ list) all = one_each end (All-head Has end list all) (told_ends rules list) (told_each list (All-tail Has end list all)) (slice_get rules end.0) refl
 
   pub told_good : (list : List End) → All EndsWell list → AreGood (told_ends rules list)
-  told_good [] well = All-nil (λ (one : EndedRule). is_good (Some one.verdict) ≡ true)
-  told_good (end ∷ list) well = one_good end (All-head EndsWell end list well) (told_ends rules list) (told_good list (All-tail EndsWell end list well)) (slice_get rules end.0)
+  told_good = told_each EndsWell (λ (one : EndedRule). is_good (Some one.verdict) ≡ true) (λ end rule here well. well)
 
 -- names that wait under numbers are those of the rules
 pub names_alike : (rules : List Rule) (at : ℕ → Option RuleName) (numbers : List ℕ) → All (λ number. at number ≡ name_in rules number) numbers → map at numbers ≡ map (name_in rules) numbers

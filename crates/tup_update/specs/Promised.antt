@@ -10,6 +10,7 @@ use Rattle.tup_promise.specs.BadEnds.{BadEnds, BlamesFirst}
 use Rattle.tup_promise.specs.Blamed.{IsToBlame}
 use Rattle.tup_promise.specs.Crashes.{OwnsNoMore, SourcesAndCrashes, SourcesStay}
 use Rattle.tup_promise.specs.Finished.{IsSettled, ExactlyTheFiles}
+use Rattle.tup_promise.specs.GoodEnds.{LeavesToRun}
 use Rattle.tup_promise.specs.Kept.{OfGraph}
 use Rattle.tup_promise.specs.Needed.{OnlyWhatIsNeeded}
 use Rattle.tup_promise.specs.Prepared.{IsPrepared}
@@ -26,7 +27,8 @@ pub record WasPrepared {S : Type 0} (site : Site S) (next : Next) (old : S) (gra
   pub states : KeepsStates (site.world old) graph.nodes
   pub stored : OfGraph (site.world at) (KeepsStates (site.world old))
 
--- what an update by so many runners leaves of a kept site, and what its log says of the rules that it ran, by its answer
+-- what an update by so many runners leaves of a kept site, what it leaves to be run there, and what its log says of the rules that it ran,
+-- by its answer
 pub record Promises {S R : Type 0} (site : Site S) (runner : Runner R) (keep_going : Bool) (jobs : ℕ) (old new : S) (log : Log) (stopped : Option Stop) : Type 0 where
   pub files : ExactlyTheFiles runner.next (site.world old) (site.world new) stopped
   pub needed : OnlyWhatIsNeeded runner.next keep_going jobs (site.world old) (site.world new) log.ran stopped
@@ -35,6 +37,7 @@ pub record Promises {S R : Type 0} (site : Site S) (runner : Runner R) (keep_goi
   pub blamed : IsToBlame runner.next (site.world old) (site.world new) log.ran stopped
   pub bads : BadEnds runner.next (site.world old) log
   pub first : BlamesFirst (site.world old) log stopped
+  pub left : LeavesToRun (site.world old) (site.world new) log
   pub full : HasFullCause site old new log.ran stopped
   -- the site is kept as it is, and a crash leaves it as it is where nothing stopped it
   pub kept : IsKeptNow site runner.next tupfiles (site.known new) new

@@ -63,12 +63,13 @@ returns-clause-prints g c = λ held holds was is.
     subst (λ (many : ℕ). HasPrinted g.R.Runner.tells next wanted many site c.tup.result.site before now held holds status ran) (sym (length-map crew g.R.Runner.faults))
     (subst (λ (l : List ℕ). HasPrinted g.R.Runner.tells next wanted (length crew) site c.tup.result.site before now l holds status ran) told.1
     (subst (λ (l : List ℕ). HasPrinted g.R.Runner.tells next wanted (length crew) site c.tup.result.site before now (g.K.Sink.held c.args.out.now) l status ran) left.1
-    (prints_less (used wanted (length crew)) memory.ghosts.tells g.R.Runner.tells (IsTrue memory.ghosts.tells × IsKeptBySome memory.ghosts site) (SaysWhyOf memory.ghosts site) (IsTrueLog memory.ghosts g.R.Runner site)
-    (IsTrueThere g.R.Runner.tells next site) _ hears_none
+    (prints_less (used wanted (length crew)) memory.ghosts.tells g.R.Runner.tells (IsTrue memory.ghosts.tells × IsKeptBySome memory.ghosts site) (SaysWhyOf memory.ghosts site) (IsTrueLog memory.ghosts g.R.Runner site (world_in c.tup.result.site))
+    (IsTrueThere g.R.Runner.tells next site (world_in c.tup.result.site)) _ hears_none
     (λ log stopped so.
     record {
       bads = λ means kept. so.bads (record { tells = refl; means = means; kept = kept });
       first = λ means kept. so.first (record { tells = refl; means = means; kept = kept });
+      left = λ means kept. so.left (record { tells = refl; means = means; kept = kept });
       did = λ some. so.did refl some;
     })
     (heard_none _ _ _ _ _ c.new-tellers.ensures.items) wanted next (world_in site) (world_in c.tup.result.site) ran before now (g.K.Sink.held c.args.out.now)
@@ -94,7 +95,7 @@ returns-clause-updates g c = λ means kept.
       needed = subst (λ (many : ℕ). ForUpdate wanted c.tup.result.status (OnlyWhatIsNeeded g.R.Runner.next (goes_on wanted) (used wanted many) old new c.tup.result.ran))
           (sym (length-map c.args.crew.items g.R.Runner.faults)) (c.tup.ensures.only_what_is_needed here);
       tells = λ updates.
-          subst (λ (many : ℕ). HasTrueLog g.R.Runner.next (used wanted many) (goes_on wanted) old c.tup.result.status c.tup.result.ran) (sym (length-map c.args.crew.items g.R.Runner.faults))
+          subst (λ (many : ℕ). HasTrueLog g.R.Runner.next (used wanted many) (goes_on wanted) old new c.tup.result.status c.tup.result.ran) (sym (length-map c.args.crew.items g.R.Runner.faults))
           (true_log g.R.Runner _ _ _ _ _ c.new-tellers.ensures.items c.args.site (used wanted (length c.args.crew.items)) _ (goes_on wanted) new c.tup.result.ran (g.K.Sink.faults c.args.out.now) (g.K.Sink.faults c.tup.new.out)
           c.tup.result.status here (c.tup.ensures.tells updates));
       blamed = c.tup.ensures.blamed here;

@@ -9,13 +9,13 @@ use Rattle.tup_promise.specs.Stopped.{no_memory}
 use Rattle.tup_promise.proofs.Handed.{err_if, err_so}
 use Rattle.tup_phases.specs.Kept.{BlamesSources}
 use Rattle.tup_phases.specs.Prepared.{StopsSurvey}
+use Rattle.tup_ends.proofs.Again.{due_flagged}
 use Rattle.tup_phases.specs.Room.{FillsStore}
 use Rattle.tup_phases.proofs.Keeping.{graph_kept, now_kept, over}
 use Rattle.tup_phases.proofs.Removing.{removes_these}
 use Rattle.tup_phases.proofs.Within.{own_within}
 use Rattle.tup_todo.specs.Listing.{due_rules, vanished}
 use Rattle.tup_todo.specs.Lists.{GoesOnFromStore}
-use Rattle.tup_todo.proofs.Again.{due_again}
 use Rattle.tup_todo.proofs.Listed.{vanished_stand}
 use Rattle.tup_todo.proofs.todo.todo_site.Goals as goal
 
@@ -215,7 +215,7 @@ returns-clause-lists g c = λ tells next kept.
       stored = stored;
       rules = brought.rules;
       due = brought.due;
-      again = λ number. (here.due number, due_again next known left graph.nodes is_kept seen stored number);
+      again = λ number. (here.due number, due_flagged next known left graph.nodes is_kept (λ path _. seen path) stored number);
       runs = c.in_ok-runs.ensures ∙ ap due_rules c.nodes-2.ensures.value;
       read = c.in_ok-graph.ensures.reads tells next kept;
       removes = removes_these first graph.nodes left.tree brought (c.surveyed.ensures.files tells).tree _ removes_are;

@@ -103,8 +103,8 @@ returns-in-Ok-Upd-clause-printed g c = λ shows.
     let held = g.K.Sink.held c.args.out.now in
     let holds = g.K.Sink.held update.new.out in
     let hears = Hears g.T.Reporter.told g.T.Reporter.faults c.args.tellers.now.items update.new.tellers.items update.result.failed.items in
-    subst (λ (w : Wanted). Printed (used w (length c.args.crew.items)) g.S.Site.tells g.R.Runner.tells (IsTrue g.S.Site.tells × IsKeptBySome g.S.Site c.args.site) (SaysWhyOf g.S.Site c.args.site) (IsTrueLog g.S.Site g.R.Runner c.args.site) hears w g.R.Runner.next old new update.result.ran before now held holds update.result.status) (sym is)
-    (subst (λ (n : ℕ). PrintsUpdate n g.S.Site.tells c.in-Ok-Upd.keep_going (SaysWhyOf g.S.Site c.args.site c.in-Ok-Upd.explain) (IsTrueLog g.S.Site g.R.Runner c.args.site) hears old new update.result.ran before now held holds update.result.status) (c.used-jobs.ensures ∙ ap (used_of c.in-Ok-Upd.jobs) (c.len.ensures ∙ c.args.crew.ok.0)) (update.ensures.printed shows))
+    subst (λ (w : Wanted). Printed (used w (length c.args.crew.items)) g.S.Site.tells g.R.Runner.tells (IsTrue g.S.Site.tells × IsKeptBySome g.S.Site c.args.site) (SaysWhyOf g.S.Site c.args.site) (IsTrueLog g.S.Site g.R.Runner c.args.site new) hears w g.R.Runner.next old new update.result.ran before now held holds update.result.status) (sym is)
+    (subst (λ (n : ℕ). PrintsUpdate n g.S.Site.tells c.in-Ok-Upd.keep_going (SaysWhyOf g.S.Site c.args.site c.in-Ok-Upd.explain) (IsTrueLog g.S.Site g.R.Runner c.args.site new) hears old new update.result.ran before now held holds update.result.status) (c.used-jobs.ensures ∙ ap (used_of c.in-Ok-Upd.jobs) (c.len.ensures ∙ c.args.crew.ok.0)) (update.ensures.printed shows))
 
 pub returns-in-Ok-Upd-clause-tells : goal.returns-in-Ok-Upd-clause-tells
 returns-in-Ok-Upd-clause-tells g c = λ _.
@@ -116,8 +116,8 @@ returns-in-Ok-Upd-clause-tells g c = λ _.
     let before = g.K.Sink.faults c.args.out.now in
     let now = g.K.Sink.faults update.new.out in
     let hears = Hears g.T.Reporter.told g.T.Reporter.faults c.args.tellers.now.items update.new.tellers.items update.result.failed.items in
-    subst (λ (w : Wanted). TellsUpdate (used w (length c.args.crew.items)) g.S.Site.tells (goes_on w) (IsTrueLog g.S.Site g.R.Runner c.args.site) hears old new update.result.ran before now update.result.status) (sym is)
-    (subst (λ (n : ℕ). TellsUpdate n g.S.Site.tells c.in-Ok-Upd.keep_going (IsTrueLog g.S.Site g.R.Runner c.args.site) hears old new update.result.ran before now update.result.status) (c.used-jobs.ensures ∙ ap (used_of c.in-Ok-Upd.jobs) (c.len.ensures ∙ c.args.crew.ok.0)) update.ensures.tells)
+    subst (λ (w : Wanted). TellsUpdate (used w (length c.args.crew.items)) g.S.Site.tells (goes_on w) (IsTrueLog g.S.Site g.R.Runner c.args.site new) hears old new update.result.ran before now update.result.status) (sym is)
+    (subst (λ (n : ℕ). TellsUpdate n g.S.Site.tells c.in-Ok-Upd.keep_going (IsTrueLog g.S.Site g.R.Runner c.args.site new) hears old new update.result.ran before now update.result.status) (c.used-jobs.ensures ∙ ap (used_of c.in-Ok-Upd.jobs) (c.len.ensures ∙ c.args.crew.ok.0)) update.ensures.tells)
 
 pub returns-in-Ok-Upd-clause-blamed_reporter : goal.returns-in-Ok-Upd-clause-blamed_reporter
 returns-in-Ok-Upd-clause-blamed_reporter g c = c.update_by-status.ensures.blamed_reporter
@@ -246,7 +246,7 @@ returns-clause-tells g c = λ _.
     let tellers = c.args.tellers.now.items in
     let told = g.T.Reporter.told in
     let faults = g.T.Reporter.faults in
-    tells_nothing (used (order c.args.words.now) (length c.args.crew.items)) g.S.Site.tells (goes_on (order c.args.words.now)) (IsTrueLog g.S.Site g.R.Runner c.args.site) (nothing_true g.S.Site g.R.Runner c.args.site) (Hears told faults tellers tellers c.nobody-in-Err-Memory.result.items)
+    tells_nothing (used (order c.args.words.now) (length c.args.crew.items)) g.S.Site.tells (goes_on (order c.args.words.now)) (IsTrueLog g.S.Site g.R.Runner c.args.site (g.S.Site.world c.args.site)) (nothing_true g.S.Site g.R.Runner c.args.site (g.S.Site.world c.args.site)) (Hears told faults tellers tellers c.nobody-in-Err-Memory.result.items)
     (unheard told faults tellers c.nobody-in-Err-Memory.result.items c.nobody-in-Err-Memory.ensures nothing_logged Memory) (g.S.Site.world c.args.site) c.new-in-Err-Memory.result c.new-in-Err-Memory.ensures (g.K.Sink.faults c.args.out.now)
     (g.K.Sink.faults c.args.out.now)
 
@@ -264,7 +264,7 @@ returns-clause-printed g c = λ _.
     let tellers = c.args.tellers.now.items in
     let told = g.T.Reporter.told in
     let faults = g.T.Reporter.faults in
-    memory_prints (used (order c.args.words.now) (length c.args.crew.items)) g.S.Site.tells g.R.Runner.tells (IsTrue g.S.Site.tells × IsKeptBySome g.S.Site c.args.site) (SaysWhyOf g.S.Site c.args.site) (says_none g.S.Site c.args.site) (IsTrueLog g.S.Site g.R.Runner c.args.site) (nothing_true g.S.Site g.R.Runner c.args.site) (Hears told faults tellers tellers c.nobody-in-Err-Memory.result.items) (unheard told faults tellers c.nobody-in-Err-Memory.result.items c.nobody-in-Err-Memory.ensures nothing_logged Memory) (order c.args.words.now) g.R.Runner.next (g.S.Site.world c.args.site) c.new-in-Err-Memory.result (g.K.Sink.faults c.args.out.now) (g.K.Sink.held c.args.out.now)
+    memory_prints (used (order c.args.words.now) (length c.args.crew.items)) g.S.Site.tells g.R.Runner.tells (IsTrue g.S.Site.tells × IsKeptBySome g.S.Site c.args.site) (SaysWhyOf g.S.Site c.args.site) (says_none g.S.Site c.args.site) (IsTrueLog g.S.Site g.R.Runner c.args.site (g.S.Site.world c.args.site)) (nothing_true g.S.Site g.R.Runner c.args.site (g.S.Site.world c.args.site)) (Hears told faults tellers tellers c.nobody-in-Err-Memory.result.items) (unheard told faults tellers c.nobody-in-Err-Memory.result.items c.nobody-in-Err-Memory.ensures nothing_logged Memory) (order c.args.words.now) g.R.Runner.next (g.S.Site.world c.args.site) c.new-in-Err-Memory.result (g.K.Sink.faults c.args.out.now) (g.K.Sink.held c.args.out.now)
     c.new-in-Err-Memory.ensures
 
 pub returns-clause-logged : goal.returns-clause-logged

@@ -65,7 +65,7 @@ returns-clause-printed g c = λ shows.
         stopped = update.result.stopped;
         begun = refl;
         logged = update.ensures.logged;
-        so = record { bads = update.ensures.bads; first = update.ensures.first; did = update.ensures.did };
+        so = record { bads = update.ensures.bads; first = update.ensures.first; left = update.ensures.left; did = update.ensures.did };
         unopened = λ tells. update.ensures.unopened tells;
       };
       status = reports.status;
@@ -83,7 +83,7 @@ returns-clause-tells g c =
       stopped = update.result.stopped;
       begun = refl;
       logged = update.ensures.logged;
-      so = record { bads = update.ensures.bads; first = update.ensures.first; did = update.ensures.did };
+      so = record { bads = update.ensures.bads; first = update.ensures.first; left = update.ensures.left; did = update.ensures.did };
       unopened = λ tells. update.ensures.unopened tells;
       status = reports.status;
       heard = reports.heard;

@@ -56,7 +56,7 @@ returns-in-Ok-clause-printed g c = λ shows.
     let long = is_long c.args.crew.items c.part_off.new.list.items c.args.jobs c.requires.jobs.1 c.in-Ok.ensures.kept in
     let says = SaysWhyOf g.S.Site c.args.site c.args.asked.explain in
     let hears = Hears g.T.Reporter.told g.T.Reporter.faults c.args.tellers.now.items update.new.tellers.items update.result.failed.items in
-    subst (λ (n : ℕ). PrintsUpdate n g.S.Site.tells c.args.asked.keep_going says (IsTrueLog g.S.Site g.R.Runner c.args.site) hears (g.S.Site.world c.args.site) (g.S.Site.world update.result.site) update.result.ran (g.K.Sink.faults c.args.out.now) (g.K.Sink.faults update.new.out)
+    subst (λ (n : ℕ). PrintsUpdate n g.S.Site.tells c.args.asked.keep_going says (IsTrueLog g.S.Site g.R.Runner c.args.site (g.S.Site.world update.result.site)) hears (g.S.Site.world c.args.site) (g.S.Site.world update.result.site) update.result.ran (g.K.Sink.faults c.args.out.now) (g.K.Sink.faults update.new.out)
     (g.K.Sink.held c.args.out.now) (g.K.Sink.held update.new.out) update.result.status) long (update.ensures.printed shows)
 
 pub returns-in-Ok-clause-tells : goal.returns-in-Ok-clause-tells
@@ -64,7 +64,7 @@ returns-in-Ok-clause-tells g c =
     let update = c.update-status in
     let long = is_long c.args.crew.items c.part_off.new.list.items c.args.jobs c.requires.jobs.1 c.in-Ok.ensures.kept in
     let hears = Hears g.T.Reporter.told g.T.Reporter.faults c.args.tellers.now.items update.new.tellers.items update.result.failed.items in
-    subst (λ (n : ℕ). TellsUpdate n g.S.Site.tells c.args.asked.keep_going (IsTrueLog g.S.Site g.R.Runner c.args.site) hears (g.S.Site.world c.args.site) (g.S.Site.world update.result.site) update.result.ran (g.K.Sink.faults c.args.out.now) (g.K.Sink.faults update.new.out)
+    subst (λ (n : ℕ). TellsUpdate n g.S.Site.tells c.args.asked.keep_going (IsTrueLog g.S.Site g.R.Runner c.args.site (g.S.Site.world update.result.site)) hears (g.S.Site.world c.args.site) (g.S.Site.world update.result.site) update.result.ran (g.K.Sink.faults c.args.out.now) (g.K.Sink.faults update.new.out)
     update.result.status) long update.ensures.tells
 
 pub returns-in-Ok-clause-blamed_reporter : goal.returns-in-Ok-clause-blamed_reporter
@@ -140,7 +140,7 @@ returns-in-Err-clause-printed g c = λ _.
     let tellers = c.args.tellers.now.items in
     let told = g.T.Reporter.told in
     let faults = g.T.Reporter.faults in
-    no_prints c.args.jobs g.S.Site.tells c.args.asked.keep_going c.args.asked.explain (SaysWhyOf g.S.Site c.args.site) (says_none g.S.Site c.args.site) (IsTrueLog g.S.Site g.R.Runner c.args.site) (nothing_true g.S.Site g.R.Runner c.args.site) (Hears told faults tellers tellers c.nobody.result.items)
+    no_prints c.args.jobs g.S.Site.tells c.args.asked.keep_going c.args.asked.explain (SaysWhyOf g.S.Site c.args.site) (says_none g.S.Site c.args.site) (IsTrueLog g.S.Site g.R.Runner c.args.site (g.S.Site.world c.args.site)) (nothing_true g.S.Site g.R.Runner c.args.site (g.S.Site.world c.args.site)) (Hears told faults tellers tellers c.nobody.result.items)
     (unheard told faults tellers c.nobody.result.items c.nobody.ensures nothing_logged Memory) (g.S.Site.world c.args.site) c.new.result (g.K.Sink.faults c.args.out.now) (g.K.Sink.held c.args.out.now) c.new.ensures
 
 pub returns-in-Err-clause-tells : goal.returns-in-Err-clause-tells
@@ -148,7 +148,7 @@ returns-in-Err-clause-tells g c =
     let tellers = c.args.tellers.now.items in
     let told = g.T.Reporter.told in
     let faults = g.T.Reporter.faults in
-    tells_nothing c.args.jobs g.S.Site.tells c.args.asked.keep_going (IsTrueLog g.S.Site g.R.Runner c.args.site) (nothing_true g.S.Site g.R.Runner c.args.site) (Hears told faults tellers tellers c.nobody.result.items) (unheard told faults tellers c.nobody.result.items c.nobody.ensures nothing_logged Memory)
+    tells_nothing c.args.jobs g.S.Site.tells c.args.asked.keep_going (IsTrueLog g.S.Site g.R.Runner c.args.site (g.S.Site.world c.args.site)) (nothing_true g.S.Site g.R.Runner c.args.site (g.S.Site.world c.args.site)) (Hears told faults tellers tellers c.nobody.result.items) (unheard told faults tellers c.nobody.result.items c.nobody.ensures nothing_logged Memory)
     (g.S.Site.world c.args.site) c.new.result c.new.ensures (g.K.Sink.faults c.args.out.now) (g.K.Sink.faults c.args.out.now)
 
 pub returns-in-Err-clause-blamed_reporter : goal.returns-in-Err-clause-blamed_reporter

@@ -35,6 +35,7 @@ use Rattle.tup_ends.proofs.Due.{asked}
 use Rattle.tup_update.specs.Promised.{Promises, WasPrepared}
 use Rattle.tup_update.proofs.BadEnds.{IsNotedAs, blames_first, first_blamed, log_noted}
 use Rattle.tup_update.proofs.FirstBad.{HasBad, bad_is_there}
+use Rattle.tup_update.proofs.GoodEnds.{IsGoneAs, left_to_run, log_gone}
 use Rattle.tup_update.proofs.Promised.{blames_rules, done_by, files_by, full_by, goes_on, runs_all_by, stops_at_bad}
 use Rattle.tup_update.proofs.run.run_board.Given.{Over}
 use Rattle.tup_update.proofs.run.run_board.Goals.{After-told}
@@ -187,15 +188,26 @@ bad_at g c name verdict is = stops_at_bad c.args.plan.now.rules (bads g c) c.dra
 has_name : (g : Over) (c : After-told g) (name : RuleName) (verdict : Verdict) (at : StopsAtBad c.args.plan.now.rules (bads g c) name verdict) → HasName (plan_of c.drain_by-done.result.board).rules at.at name
 has_name g c name verdict at = subst (λ (p : Plan). HasName p.rules at.at name) (sym (plan_is g c)) (at.rule, at.is.here, sym at.name_is)
 
--- what the log tells of bad rules is noted on the board
-log_bads : (g : Over) (c : After-told g) → All (IsNotedAs (plan_of c.drain_by-done.result.board).rules (bads g c)) c.told.result.log.ended
-log_bads g c =
+-- what the log tells of the ends on the board
+log_tells : (g : Over) (c : After-told g) → TellsFor (told_ends (plan_of c.drain_by-done.result.board).rules (ends c.drain_by-done.result.board.history)) [] c.told.result.log.ended c.told.result.stopped
+log_tells g c =
     let board = c.drain_by-done.result.board in
     let ended = c.told.result.log.ended in
     let stopped = c.told.result.stopped in
-    log_noted (plan_of board) (finite.entries board.opening.graph.nodes.seen) board.history c.into_parts-parts.ensures.keeps.run ended stopped
-    (subst (λ (p : Plan). TellsFor (told_ends p.rules (ends board.history)) [] ended stopped) (sym (plan_is g c))
-    (subst (λ (events : List CoreEvent). TellsFor (told_ends c.args.plan.now.rules (ends events)) [] ended stopped) c.into_parts-parts.ensures.history c.told.ensures.tells))
+    subst (λ (p : Plan). TellsFor (told_ends p.rules (ends board.history)) [] ended stopped) (sym (plan_is g c))
+    (subst (λ (events : List CoreEvent). TellsFor (told_ends c.args.plan.now.rules (ends events)) [] ended stopped) c.into_parts-parts.ensures.history c.told.ensures.tells)
+
+-- what it tells of bad rules is noted there
+log_bads : (g : Over) (c : After-told g) → All (IsNotedAs (plan_of c.drain_by-done.result.board).rules (bads g c)) c.told.result.log.ended
+log_bads g c =
+    let board = c.drain_by-done.result.board in
+    log_noted (plan_of board) (finite.entries board.opening.graph.nodes.seen) board.history c.into_parts-parts.ensures.keeps.run c.told.result.log.ended c.told.result.stopped (log_tells g c)
+
+-- and what it tells of good ones isn't pending there
+log_goods : (g : Over) (c : After-told g) → All (IsGoneAs (plan_of c.drain_by-done.result.board).rules (state c.drain_by-done.result.board).pending) c.told.result.log.ended
+log_goods g c =
+    let board = c.drain_by-done.result.board in
+    log_gone (plan_of board) (finite.entries board.opening.graph.nodes.seen) board.history c.into_parts-parts.ensures.keeps.run c.told.result.log.ended c.told.result.stopped (log_tells g c)
 
 pub returns-clause-promised : goal.returns-clause-promised
 returns-clause-promised g c = λ old tells means was.
@@ -236,6 +248,10 @@ returns-clause-promised g c = λ old tells means was.
           let at = bad_at g c name verdict is in
           first_blamed first (plan_of board).rules (asked g.S.Site g.R.Runner board keeps ran (names_run g c) next first since opened.prepared) (bads g c) at.at at.is.first name (has_name g c name verdict at) c.told.result.log.ended
           (log_bads g c));
+      left = left_to_run first (g.S.Site.world board.site) (plan_of board).rules (asked g.S.Site g.R.Runner board keeps ran (names_run g c) next first since opened.prepared)
+          (c.boards_leave_due.ensures.asked board first since tells means keeps (graph_read g c) opened.prepared once) (state board).pending
+          (λ number. c.boards_leave_due.ensures.pending board first since number tells means keeps (graph_read g c) opened.prepared once)
+          (λ number. c.boards_leave_due.ensures.before board first since number tells means keeps (graph_read g c) opened.prepared once) c.told.result.log (log_goods g c);
       full = full_by g.S.Site old board.site ran stopped (λ is.
           c.full_is_true.ensures board first since ran tells keeps opened.prepared (names_run g c)
           (stopped_full c.args.plan.now.rules (bads g c) (state board) c.drain_by-done.result.drained stopped c.drain_by-done.ensures.drains (stops_by g c) is));

@@ -3,6 +3,7 @@ use Rattle.std.proofs.lemmas.Option.{none-some}
 use Rattle.tup_promise.specs.Cause.{CrewCountedCause}
 use Rattle.tup_promise.specs.Kept.{KeptHere}
 use Rattle.tup_promise.proofs.BadEnds.{none_bad}
+use Rattle.tup_promise.proofs.GoodEnds.{none_good}
 use Rattle.tup_ends.proofs.Stated.{kept_stated}
 use Rattle.tup_ends.proofs.Staying.{sources_kept}
 use Rattle.tup_phases.specs.Logged.{ended_rules}
@@ -63,6 +64,9 @@ returns-in-Ok-clause-bads g c = λ here. (promised g c here).bads
 pub returns-in-Ok-clause-first : goal.returns-in-Ok-clause-first
 returns-in-Ok-clause-first g c = λ here. (promised g c here).first
 
+pub returns-in-Ok-clause-left : goal.returns-in-Ok-clause-left
+returns-in-Ok-clause-left g c = λ here. (promised g c here).left
+
 pub returns-in-Ok-clause-full : goal.returns-in-Ok-clause-full
 returns-in-Ok-clause-full g c = λ here. (promised g c here).full
 
@@ -100,6 +104,10 @@ returns-in-Err-clause-bads g c = λ here. none_bad g.R.Runner.next (g.S.Site.wor
 
 pub returns-in-Err-clause-first : goal.returns-in-Err-clause-first
 returns-in-Err-clause-first g c = λ here. blames_before (g.S.Site.world c.args.site) c.prepared.new.log c.in-Err.stop c.in-Err.ensures.stops
+
+pub returns-in-Err-clause-left : goal.returns-in-Err-clause-left
+returns-in-Err-clause-left g c = λ here.
+    none_good (g.S.Site.world c.args.site) (g.S.Site.world c.prepared.new.site) c.prepared.new.log (c.prepared.ensures.none.ended ∙ c.new-log.ensures.ended) (c.prepared.ensures.none.ran ∙ c.new-log.ensures.ran)
 
 pub returns-in-Err-clause-full : goal.returns-in-Err-clause-full
 returns-in-Err-clause-full g c = λ here.
