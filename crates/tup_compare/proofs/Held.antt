@@ -1,20 +1,16 @@
 -- What two worlds hold that list the same.
-use Rattle.std.proofs.Common.{◌≡◌, ◌⊎◌, ℕ, List, [], ⊎_elim, Result, Ok, Err, inl, inr, refl, sym, ap, subst, ◌∙◌}
+use Rattle.std.proofs.Common.{◌≡◌, ◌⊎◌, ℕ, List, [], inl, inr, refl, sym, subst, ◌∙◌}
 use Rattle.tup_path.specs.Name.{Names}
 use Rattle.tup_site.specs.World.{World}
 use Rattle.tup_table.specs.Entries.{Standing}
-use Rattle.tup_table.specs.Reading.{opened_of}
-use Rattle.tup_table.specs.declared.fault.TableFault.{TableFault}
-use Rattle.tup_table.specs.declared.fault.TableFault.TheVariants as table
-use Rattle.tup_table.specs.declared.opened.Opened.{Opened}
-use Rattle.tup_table.proofs.Stores.{not_empty, reads_one}
+use Rattle.tup_table.proofs.Stores.{not_empty}
 use Rattle.tup_graph.specs.Opening.{IsGraphOf}
-use Rattle.tup_graph.proofs.OneWay.{not_broken}
 use Rattle.tup_table.specs.Images.{Leaves, OpenStep}
 use Rattle.tup_ledger.specs.Listing.{StillLists}
 use Rattle.tup_ledger.proofs.Listing.{nothing_lists, opened_still}
 use Rattle.tup_compare.specs.Holding.{HasSameEntries, Holding, HoldsOn, Lists, Shows}
 use Rattle.tup_promise.specs.Unopened.{IsDamaged}
+use Rattle.tup_promise.proofs.Stored.{undamaged as graph_undamaged}
 
 -- ---- worlds that hold the same
 pub holds_itself : (w : World) → HoldsOn w w
@@ -65,13 +61,8 @@ pub there : (bytes : List ℕ) (paths : List Names) → Lists bytes paths → by
 there bytes paths lists none = nothing_lists paths (subst (λ (b : List ℕ). Lists b paths) none lists)
 
 pub undamaged : (bytes : List ℕ) (paths : List Names) (offset : ℕ) → Lists bytes paths → IsDamaged bytes offset → ⊥
-undamaged bytes paths offset lists (left, opens) =
-    ⊎_elim
-    (λ damaged. let one : ◌≡◌ {A = Result Opened TableFault} (Ok (opened_of leaves.0)) (Err (table.BadStore offset)) = reads_one bytes (Ok (opened_of leaves.0)) (Err (table.BadStore offset)) (leaves.0, leaves.1, refl) damaged.0 in absurd (cc one))
-    (λ broken.
-    let one : ◌≡◌ {A = Result Opened TableFault} (Ok (opened_of leaves.0)) (Ok broken.opened) = reads_one bytes (Ok (opened_of leaves.0)) (Ok broken.opened) (leaves.0, leaves.1, refl) broken.reads in
-    let same : opened_of leaves.0 ≡ broken.opened = cc one in
-    not_broken broken.opened.entries lists.graph offset (subst (λ (es : Standing). IsGraphOf es lists.graph) (leaves.2 ∙ ap (λ (o : Opened). o.entries) same) lists.store.stands) broken.broken) opens
+undamaged bytes paths offset lists =
+    graph_undamaged bytes lists.graph offset (record { commits = leaves.0; reads = leaves.1; graph = subst (λ (es : Standing). IsGraphOf es lists.graph) leaves.2 lists.store.stands })
   where
     leaves : Leaves lists.store.entries bytes
     leaves = lists.store.leaves

@@ -10,13 +10,12 @@ use Rattle.tup_runner.specs.Next.{Next}
 use Rattle.tup_table.specs.Images.{OpenStep}
 use Rattle.tup_table.specs.Store.{IsStore, header}
 use Rattle.tup_table.proofs.Stores.{not_empty}
-use Rattle.tup_graph.specs.Graph.{GraphState}
-use Rattle.tup_graph.specs.Kept.{IsGraphIn}
 use Rattle.tup_ledger.specs.Begin.{Begins, BeginStep}
 use Rattle.tup_law_phases.proofs.Beginning.{begun_kept}
 use Rattle.tup_compare.specs.Holding.{HasSameEntries, HoldsOn}
 use Rattle.tup_compare.proofs.Held.{opened_holds, still_none}
 use Rattle.tup_promise.specs.Unopened.{IsReadable}
+use Rattle.tup_promise.proofs.Stored.{some_bytes}
 use Rattle.tup_top.specs.Order.{Wanted}
 use Rattle.tup_top.specs.Promise.{ForInit, Lasts, NothingDone}
 use Rattle.tup_top.specs.Status.{IfBegan}
@@ -41,10 +40,6 @@ as_opened v w on = by on.store
     by : (w.store ≡ v.store) ⊎ HasSameEntries v.store w.store → (w ≡ v) ⊎ OpenStep v w
     by (inl same) = inl (λ i. record { tree = on.tree i; store = same i })
     by (inr (entries, before, after, end)) = inr (record { tree = on.tree; entries = entries; before = before; after = after; end = end })
-
--- bytes in which a graph stands are some
-some_bytes : (bytes : List ℕ) (g : GraphState) → IsGraphIn bytes g → bytes ≡ [] → ⊥
-some_bytes bytes g is none = not_empty is.commits (subst (λ (b : List ℕ). IsStore b is.commits) none is.reads)
 
 -- without a store nothing is read
 nothing_reads : (bytes : List ℕ) → bytes ≡ [] → IsReadable bytes → ⊥

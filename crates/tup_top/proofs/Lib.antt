@@ -4,6 +4,7 @@ pub mod True
 pub mod Reported
 pub mod Idle
 pub mod Success
+mod Succeeds
 pub mod Verified
 pub mod Crewed
 pub mod Parted

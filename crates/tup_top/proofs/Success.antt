@@ -21,7 +21,7 @@ not_rose before now same counts (inl more) = omega (arith, same, more)
 not_rose before now same counts (inr end) = omega (arith, counts, end)
 
 -- no runner failed
-no_runner_rose : (before now : Counts) → NothingFailed before now → OneRose before.runners now.runners → ⊥
+pub no_runner_rose : (before now : Counts) → NothingFailed before now → OneRose before.runners now.runners → ⊥
 no_runner_rose before now fine one =
     let there : slice_get now.runners one.at ≡ Some one.was = ap (λ (l : List ℕ). slice_get l one.at) fine.runners ∙ one.stood in
     let same : Some one.is ≡ Some one.was = sym one.stands ∙ there in

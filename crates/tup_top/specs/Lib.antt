@@ -6,3 +6,4 @@ pub mod Truth
 pub mod Printed
 pub mod Telling
 pub mod Promise
+pub mod Success

@@ -27,6 +27,7 @@ ghost use Rattle.tup_top.specs.Promise.{FindsOut, ForUpdate, ForInit, ForTodo, F
 ghost use Rattle.tup_top.specs.Promise.{Lasts, Logs, NothingDone};
 ghost use Rattle.tup_top.specs.Promise.{OnceDone, OpensStore, QuietStep, Spares};
 ghost use Rattle.tup_top.specs.Promise.{HasPlainCause, IsRefusal, Initializes, Compares, counts};
+ghost use Rattle.tup_top.specs.Success.{Lists, Succeeds};
 ghost use Rattle.tup_top.specs.Telling.{Hears, TellsTodo, TellsUpdate};
 ghost use Rattle.tup_top.specs.Truth.{IsTrueLog};
 ghost use Rattle.tup_top.specs.declared.status.Status.TheVariants.{TellFault, Usage};
@@ -163,6 +164,18 @@ pub fn tup<W: Threads + Wait + Sync, S: Site + Send, R: Runner + Send, T: Report
     ensures users { IsTrue S.tells → IsKeptBySome S.Site.own site → HasUsersFile (S.world site)
         → ForUpdate (order words.now) result.status
         (IsHeldUp S.Site.own site result.site result.ran) }
+    // Where nothing stands in its way and nothing fails, it is done, unless there was no memory. So is
+    // finding out what it would do, whatever the runner is.
+    ensures success { KeptHere S.Site.own R.Runner.own site
+        → let before = counts S.faults R.faults K.faults site crew.items out.old in
+        let now = counts S.faults R.faults K.faults result.site result.crew.items out.new in
+        Succeeds (order words.now) S.Site.own R.next site result.site before now
+        (result.failed.items ≡ []) result.status }
+    ensures lists { IsTrue S.tells → IsKeptBySome S.Site.own site
+        → let before = counts S.faults R.faults K.faults site crew.items out.old in
+        let now = counts S.faults R.faults K.faults result.site result.crew.items out.new in
+        Lists (order words.now) (S.world site) (S.world result.site) before now
+        (result.failed.items ≡ []) result.status }
     ensures crew { length result.crew.items ≡ length crew.items }
     // All runners behind those that are used are as they were.
     ensures others { let jobs = used (order words.now) (length crew.items) in

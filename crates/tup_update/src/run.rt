@@ -41,8 +41,8 @@ use tup_core::{CoreEvent, Plan, claimed_once};
 use tup_ends::{
     bad_ran_all_it_could, bad_rules_are_bad, bad_stands_last, boards_are_kept,
     boards_leave_crashes, boards_leave_due, boards_leave_sources, boards_leave_states,
-    done_is_finished, done_is_settled, done_ran_all, full_is_true, prepared_is_finished, prepared_is_settled,
-    ran_what_was_due,
+    done_is_finished, done_is_settled, done_ran_all, full_is_true, prepared_is_finished,
+    prepared_is_settled, ran_what_was_due,
 };
 use tup_graph::Nodes;
 use tup_parallel::drain_by;

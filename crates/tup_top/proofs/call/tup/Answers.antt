@@ -34,6 +34,7 @@ use Rattle.tup_top.proofs.Causes.{nothing_logged, says_none}
 use Rattle.tup_top.proofs.Idle.{idle, memory_causes, memory_found_out, memory_for_init, memory_for_update, memory_for_verify, memory_logs, memory_opens, memory_prints}
 use Rattle.tup_top.proofs.Reported.{tells_no_folder, tells_nothing, unheard}
 use Rattle.tup_top.proofs.Success.{compares_so}
+use Rattle.tup_top.proofs.Succeeds.{finds_so, updates_so}
 use Rattle.tup_top.proofs.True.{nothing_true}
 use Rattle.tup_top.proofs.Untouched.{untouched_crashes, untouched_flags, untouched_needed, untouched_states}
 use Rattle.tup_top.proofs.call.tup.Goals as goal
@@ -414,6 +415,26 @@ returns-clause-users g c = λ _ _ _.
     let site = c.args.site in
     memory_for_update (order c.args.words.now) (IsHeldUp g.S.Site site site c.new-in-Err-Memory.result)
     (record { stops = λ none. none-some _ (sym none); none = c.new-in-Err-Memory.ensures; files = refl; crash = at_rest g.S.Site.moment g.S.Site.left_since site TreeStays })
+
+-- where nothing stands in its way
+
+pub returns-in-Ok-Upd-clause-success : goal.returns-in-Ok-Upd-clause-success
+returns-in-Ok-Upd-clause-success g c = λ here _ can fine told.
+    let update = c.update_by-status in
+    updates_so g.S.Site g.R.Runner.next c.args.site update.result.site here.kept.now.graph here.kept.now.reads can update.result.ran _ _ update.result.status (update.ensures.opens_store here.tells) (update.ensures.blamed here)
+    (update.ensures.full here) update.ensures.counted_cause.any (λ is. update.ensures.blamed_reporter is told) fine
+
+pub returns-in-Ok-Todo-clause-lists : goal.returns-in-Ok-Todo-clause-lists
+returns-in-Ok-Todo-clause-lists g c = λ tells some _ can fine told.
+    let todo = c.todo-status in
+    finds_so (g.S.Site.world c.args.site) (g.S.Site.world todo.new.site) some.1.now.graph some.1.now.reads can (IsKeptBySome g.S.Site c.args.site) _ _ todo.result.status some (todo.ensures.found_out tells)
+    (todo.ensures.counted_cause (map g.R.Runner.faults c.args.crew.items)) (λ is. todo.ensures.blamed_reporter is told) fine
+
+pub returns-clause-success : goal.returns-clause-success
+returns-clause-success g c = λ _ _ _ _ _. tt
+
+pub returns-clause-lists : goal.returns-clause-lists
+returns-clause-lists g c = λ _ _ _ _ _ _. tt
 
 -- the limits
 
