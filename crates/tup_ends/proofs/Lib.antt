@@ -10,4 +10,5 @@ pub mod Blame
 pub mod Stated
 pub mod Lasting
 mod Left
+mod Nothing
 mod Room

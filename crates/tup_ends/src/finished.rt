@@ -1,5 +1,5 @@
 //! An update that is done leaves the files of a clean build.
-ghost use Rattle.std.specs.Prelude.{◌≡◌, ◌≢◌, ℕ, false, List, None, Ok, Some, IsTrue, slice_get};
+ghost use Rattle.std.specs.Prelude.{◌≡◌, ◌≢◌, [], ℕ, false, List, None, Ok, Some, All, IsTrue, slice_get};
 ghost use Rattle.std.specs.FinMap as finite;
 ghost use Rattle.std.specs.List.{IsDistinct};
 ghost use Rattle.tup_path.specs.Name.{Names, Content};
@@ -8,6 +8,7 @@ ghost use Rattle.tup_path.specs.Tree.{Tree};
 ghost use Rattle.tup_site.specs.Known.{IsKnown, KnowsTree};
 ghost use Rattle.tup_site.specs.World.{World};
 ghost use Rattle.tup_rule.specs.declared.rule.Rule.{Rule};
+ghost use Rattle.tup_rule.specs.declared.rule.RuleName.{RuleName};
 ghost use Rattle.tup_runner.specs.Next.{Next};
 ghost use Rattle.tup_project.specs.Project.{ComeTo};
 ghost use Rattle.tup_table.specs.Table.{entries_in};
@@ -23,7 +24,9 @@ ghost use Rattle.tup_board.specs.Board.{BoardState, plan_of, state};
 ghost use Rattle.tup_board.specs.Sound.{IsSound};
 ghost use Rattle.tup_law_site.specs.Over.{IsKeptNow};
 ghost use Rattle.tup_law_phases.specs.Language.{tupfiles};
+ghost use Rattle.tup_promise.specs.Did.{RemovesWhatIsUnmade};
 ghost use Rattle.tup_promise.specs.Finished.{IsSettled, ExactlyTheFiles, IsFinished};
+ghost use Rattle.tup_promise.specs.Needed.{IsDueName};
 ghost use Rattle.tup_promise.specs.Prepared.{IsPrepared};
 
 use tup_runner::Runner;
@@ -39,6 +42,15 @@ pub fn finished_is_clean()
         → owned.maker ≢ None)
         → h.created ≡ finite.empty → ComeTo (sources_of h tree) (Ok h.rules)
         → IsKnown known → KnowsTree known tree → IsFinished next (sources_of h tree) h tree }
+{}
+
+/// A law: after an update that is done nothing is left to do. An update that begins in what it left begins no rule, as none is due
+/// there, and removes no file, as each owned path is made by a rule.
+pub fn done_leaves_nothing_to_do()
+    ensures runs { (next : Next) (old new : World) (ran : List RuleName)
+        → ExactlyTheFiles next old new None → All (IsDueName new) ran → ran ≡ [] }
+    ensures removes { (next : Next) (old new : World) (removed : List Names)
+        → ExactlyTheFiles next old new None → RemovesWhatIsUnmade new removed → removed ≡ [] }
 {}
 
 /// A law: an update that has no rule to run, once its graph is up to date, leaves exactly the files of a clean build.
