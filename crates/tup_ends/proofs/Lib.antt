@@ -10,5 +10,6 @@ pub mod Blame
 pub mod Stated
 pub mod Lasting
 mod Left
+mod Making
 mod Nothing
 mod Room

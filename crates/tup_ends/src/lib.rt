@@ -7,6 +7,7 @@ mod blamed;
 mod finished;
 mod full;
 mod kept;
+mod made;
 mod needed;
 mod sources;
 mod states;
@@ -18,6 +19,7 @@ pub use finished::{
 };
 pub use full::full_is_true;
 pub use kept::{boards_are_kept, boards_leave_crashes};
+pub use made::settled_rules_are_made;
 pub use needed::{
     bad_ran_all_it_could, bad_stands_last, boards_leave_due, done_ran_all, none_ran_is_needed,
     prepared_flags_what_was_due, ran_what_was_due,

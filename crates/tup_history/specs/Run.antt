@@ -18,7 +18,7 @@ use Rattle.tup_promise.specs.Blamed.{IsToBlame}
 use Rattle.tup_promise.specs.Cause.{IsWithin}
 use Rattle.tup_promise.specs.Did.{ReadAndRemoved}
 use Rattle.tup_promise.specs.Finished.{ExactlyTheFiles}
-use Rattle.tup_promise.specs.GoodEnds.{LeavesToRun}
+use Rattle.tup_promise.specs.GoodEnds.{GoodEnds}
 use Rattle.tup_promise.specs.Needed.{OnlyWhatIsNeeded}
 use Rattle.tup_promise.specs.States.{States}
 use Rattle.tup_promise.specs.Unopened.{IsReadable}
@@ -70,8 +70,8 @@ pub record Leaves (wanted : Wanted) (old new : MemSite) (status : Status) : Type
   pub found_out : ForTodo wanted status (FindsOut ((next : Next) × IsKept next old) (world_in old) (world_in new))
 
 -- An update of a kept world by so many runners, which left another, answered this and began these rules, has a log that is true: of the
--- rules that it began, of the bad ones among them, of the good ones, none of which is due in what is left, and of the Tupfiles and files
--- that it read and removed. It answers what it came to, or in the place of that all was done that its lines couldn't be written, or that
+-- rules that it began, of the bad ones among them, of the good ones, whose outputs stand and none of which is due in what is left, and of
+-- the Tupfiles and files that it read and removed. It answers what it came to, or in the place of that all was done that its lines couldn't be written, or that
 -- there was no memory.
 pub record HasTrueLog (next : Next) (jobs : ℕ) (keep_going : Bool) (old new : World) (status : Status) (ran : List RuleName) : Type 0 where
   pub log : Log
@@ -80,7 +80,7 @@ pub record HasTrueLog (next : Next) (jobs : ℕ) (keep_going : Bool) (old new : 
   pub logged : IsLogged jobs keep_going log stopped
   pub bads : BadEnds next old log
   pub first : BlamesFirst old log stopped
-  pub left : LeavesToRun old new log
+  pub left : GoodEnds next old new log
   pub did : ReadAndRemoved old log stopped
   pub answers : (status ≡ status_of log stopped) ⊎ (status ≡ Memory) ⊎ ((status ≡ SinkFault) × IsDone (status_of log stopped))
 

@@ -9,7 +9,7 @@ use Rattle.tup_rule.specs.declared.rule.RuleName.{RuleName}
 use Rattle.tup_runner.specs.Next.{Next}
 use Rattle.tup_promise.specs.BadEnds.{BadEnds, BlamesFirst}
 use Rattle.tup_promise.specs.Did.{ReadAndRemoved}
-use Rattle.tup_promise.specs.GoodEnds.{LeavesToRun}
+use Rattle.tup_promise.specs.GoodEnds.{GoodEnds}
 use Rattle.tup_promise.specs.Kept.{IsKeptBySome}
 use Rattle.tup_promise.specs.Ran.{CrewRuns}
 use Rattle.tup_promise.specs.declared.log.Log.{Log}
@@ -38,7 +38,7 @@ pub record HasRun (tells : Bool) (next : Next) (wanted : Wanted) (many : ℕ) (o
 pub record IsTrueThere (tells : Bool) (next : Next) (old : MemSite) (new : World) (log : Log) (stopped : Option Stop) : Type 0 where
   pub bads : IsTrue tells → IsKept next old → BadEnds next (world_in old) log
   pub first : IsTrue tells → IsKept next old → BlamesFirst (world_in old) log stopped
-  pub left : IsTrue tells → IsKept next old → LeavesToRun (world_in old) new log
+  pub left : IsTrue tells → IsKept next old → GoodEnds next (world_in old) new log
   pub did : IsKeptBySome memory.ghosts old → ReadAndRemoved (world_in old) log stopped
 
 -- What a sink held before a run by a crew of so many, and holds now: it has grown by the lines of that run.

@@ -14,6 +14,6 @@ pub nothing_true : {S R : Type 0} (site : Site S) (runner : Runner R) (old : S) 
 nothing_true site runner old new = record {
   bads = λ _. none_bad runner.next (site.world old) nothing_logged refl;
   first = λ _. tt;
-  left = λ _. none_good (site.world old) new nothing_logged refl refl;
+  left = λ _. none_good runner.next (site.world old) new nothing_logged refl refl;
   did = λ tells some. inl (refl, refl);
 }

@@ -102,7 +102,7 @@ unchanged {S} site runner keep_going jobs graph at new log stopped due same none
       blamed = tt;
       bads = no_bad_ends runner.next (site.world old) log none.ended;
       first = tt;
-      left = none_good (site.world old) (site.world at) log none.ended none.ran;
+      left = none_good runner.next (site.world old) (site.world at) log none.ended none.ran;
       full = tt;
       kept = was.prepared.kept;
       settled = λ none. absurd (none-some (stop.Outside failed.Memory) (sym none));
@@ -126,7 +126,7 @@ nothing_due site runner keep_going jobs graph at log due none unflagged files se
       blamed = tt;
       bads = no_bad_ends runner.next first log none.ended;
       first = tt;
-      left = none_good first (site.world at) log none.ended none.ran;
+      left = none_good runner.next first (site.world at) log none.ended none.ran;
       full = tt;
       kept = was.prepared.kept;
       settled = λ _. settled first since tells was.prepared;

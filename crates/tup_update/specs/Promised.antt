@@ -10,7 +10,7 @@ use Rattle.tup_promise.specs.BadEnds.{BadEnds, BlamesFirst}
 use Rattle.tup_promise.specs.Blamed.{IsToBlame}
 use Rattle.tup_promise.specs.Crashes.{OwnsNoMore, SourcesAndCrashes, SourcesStay}
 use Rattle.tup_promise.specs.Finished.{IsSettled, ExactlyTheFiles}
-use Rattle.tup_promise.specs.GoodEnds.{LeavesToRun}
+use Rattle.tup_promise.specs.GoodEnds.{GoodEnds}
 use Rattle.tup_promise.specs.Kept.{OfGraph}
 use Rattle.tup_promise.specs.Needed.{OnlyWhatIsNeeded}
 use Rattle.tup_promise.specs.Prepared.{IsPrepared}
@@ -37,7 +37,7 @@ pub record Promises {S R : Type 0} (site : Site S) (runner : Runner R) (keep_goi
   pub blamed : IsToBlame runner.next (site.world old) (site.world new) log.ran stopped
   pub bads : BadEnds runner.next (site.world old) log
   pub first : BlamesFirst (site.world old) log stopped
-  pub left : LeavesToRun (site.world old) (site.world new) log
+  pub left : GoodEnds runner.next (site.world old) (site.world new) log
   pub full : HasFullCause site old new log.ran stopped
   -- the site is kept as it is, and a crash leaves it as it is where nothing stopped it
   pub kept : IsKeptNow site runner.next tupfiles (site.known new) new

@@ -42,7 +42,7 @@ use tup_ends::{
     bad_ran_all_it_could, bad_rules_are_bad, bad_stands_last, boards_are_kept,
     boards_leave_crashes, boards_leave_due, boards_leave_sources, boards_leave_states,
     done_is_finished, done_is_settled, done_ran_all, full_is_true, prepared_is_finished,
-    prepared_is_settled, ran_what_was_due,
+    prepared_is_settled, ran_what_was_due, settled_rules_are_made,
 };
 use tup_graph::Nodes;
 use tup_parallel::drain_by;
@@ -237,6 +237,7 @@ fn run_board<W: Threads + Wait + Sync, S: Site + Send, R: Runner + Send>(
     done_is_settled(&parts.site, runner);
     ran_what_was_due(&parts.site, runner);
     boards_leave_due(&parts.site, runner);
+    settled_rules_are_made(&parts.site, runner);
     done_ran_all(&parts.site, runner);
     bad_ran_all_it_could(&parts.site, runner);
     bad_stands_last(&parts.site, runner);

@@ -10,7 +10,7 @@ ghost use Rattle.tup_promise.specs.Blamed.{IsToBlame};
 ghost use Rattle.tup_promise.specs.Crashes.{SourcesAndCrashes, SourcesStay};
 ghost use Rattle.tup_promise.specs.Did.{ReadAndRemoved};
 ghost use Rattle.tup_promise.specs.Finished.{IsSettled, ExactlyTheFiles};
-ghost use Rattle.tup_promise.specs.GoodEnds.{LeavesToRun};
+ghost use Rattle.tup_promise.specs.GoodEnds.{GoodEnds};
 ghost use Rattle.tup_promise.specs.Kept.{IsKeptBySome, KeptHere};
 ghost use Rattle.tup_promise.specs.Needed.{OnlyWhatIsNeeded};
 ghost use Rattle.tup_phases.specs.Logged.{IsLogged};
@@ -100,9 +100,10 @@ pub fn update_site<W: Threads + Wait + Sync, S: Site + Send, R: Runner + Send>(
         → BadEnds R.next (S.world site) result.log }
     ensures first { KeptHere S.Site.own R.Runner.own site
         → BlamesFirst (S.world site) result.log result.stopped }
-    // What is due in what it leaves was due before, and no rule that ended well is: the next update doesn't run it again.
+    // Each rule that ended well is good in the clean build, what it made stands, and the next update doesn't run it again; nor is
+    // one due then that wasn't due before.
     ensures left { KeptHere S.Site.own R.Runner.own site
-        → LeavesToRun (S.world site) (S.world result.site) result.log }
+        → GoodEnds R.next (S.world site) (S.world result.site) result.log }
     // And where it is told that the store is full, there is no room in it.
     ensures full { KeptHere S.Site.own R.Runner.own site
         → HasFullCause S.Site.own site result.site result.log.ran result.stopped }

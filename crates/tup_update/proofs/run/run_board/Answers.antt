@@ -35,7 +35,7 @@ use Rattle.tup_ends.proofs.Due.{asked}
 use Rattle.tup_update.specs.Promised.{Promises, WasPrepared}
 use Rattle.tup_update.proofs.BadEnds.{IsNotedAs, blames_first, first_blamed, log_noted}
 use Rattle.tup_update.proofs.FirstBad.{HasBad, bad_is_there}
-use Rattle.tup_update.proofs.GoodEnds.{IsGoneAs, left_to_run, log_gone}
+use Rattle.tup_update.proofs.GoodEnds.{IsGoneAs, good_ends, log_gone}
 use Rattle.tup_update.proofs.Promised.{blames_rules, done_by, files_by, full_by, goes_on, runs_all_by, stops_at_bad}
 use Rattle.tup_update.proofs.run.run_board.Given.{Over}
 use Rattle.tup_update.proofs.run.run_board.Goals.{After-told}
@@ -203,8 +203,8 @@ log_bads g c =
     let board = c.drain_by-done.result.board in
     log_noted (plan_of board) (finite.entries board.opening.graph.nodes.seen) board.history c.into_parts-parts.ensures.keeps.run c.told.result.log.ended c.told.result.stopped (log_tells g c)
 
--- and what it tells of good ones isn't pending there
-log_goods : (g : Over) (c : After-told g) → All (IsGoneAs (plan_of c.drain_by-done.result.board).rules (state c.drain_by-done.result.board).pending) c.told.result.log.ended
+-- and what it tells of good ones was to be run, and isn't pending there
+log_goods : (g : Over) (c : After-told g) → All (IsGoneAs (plan_of c.drain_by-done.result.board) (state c.drain_by-done.result.board).pending) c.told.result.log.ended
 log_goods g c =
     let board = c.drain_by-done.result.board in
     log_gone (plan_of board) (finite.entries board.opening.graph.nodes.seen) board.history c.into_parts-parts.ensures.keeps.run c.told.result.log.ended c.told.result.stopped (log_tells g c)
@@ -248,8 +248,9 @@ returns-clause-promised g c = λ old tells means was.
           let at = bad_at g c name verdict is in
           first_blamed first (plan_of board).rules (asked g.S.Site g.R.Runner board keeps ran (names_run g c) next first since opened.prepared) (bads g c) at.at at.is.first name (has_name g c name verdict at) c.told.result.log.ended
           (log_bads g c));
-      left = left_to_run first (g.S.Site.world board.site) (plan_of board).rules (asked g.S.Site g.R.Runner board keeps ran (names_run g c) next first since opened.prepared)
+      left = good_ends next first (g.S.Site.world board.site) (plan_of board) (asked g.S.Site g.R.Runner board keeps ran (names_run g c) next first since opened.prepared)
           (c.boards_leave_due.ensures.asked board first since tells means keeps (graph_read g c) opened.prepared once) (state board).pending
+          (λ number rule here reached gone. c.settled_rules_are_made.ensures board first since number rule tells means keeps opened.prepared here reached gone)
           (λ number. c.boards_leave_due.ensures.pending board first since number tells means keeps (graph_read g c) opened.prepared once)
           (λ number. c.boards_leave_due.ensures.before board first since number tells means keeps (graph_read g c) opened.prepared once) c.told.result.log (log_goods g c);
       full = full_by g.S.Site old board.site ran stopped (λ is.

@@ -107,7 +107,7 @@ returns-in-Err-clause-first g c = λ here. blames_before (g.S.Site.world c.args.
 
 pub returns-in-Err-clause-left : goal.returns-in-Err-clause-left
 returns-in-Err-clause-left g c = λ here.
-    none_good (g.S.Site.world c.args.site) (g.S.Site.world c.prepared.new.site) c.prepared.new.log (c.prepared.ensures.none.ended ∙ c.new-log.ensures.ended) (c.prepared.ensures.none.ran ∙ c.new-log.ensures.ran)
+    none_good g.R.Runner.next (g.S.Site.world c.args.site) (g.S.Site.world c.prepared.new.site) c.prepared.new.log (c.prepared.ensures.none.ended ∙ c.new-log.ensures.ended) (c.prepared.ensures.none.ran ∙ c.new-log.ensures.ran)
 
 pub returns-in-Err-clause-full : goal.returns-in-Err-clause-full
 returns-in-Err-clause-full g c = λ here.
