@@ -32,9 +32,9 @@ use Rattle.tup_law_site.proofs.Stores.{in_bytes, one_in_bytes}
 use Rattle.tup_stale.specs.Cleared.{SparesUsers}
 use Rattle.tup_stale.specs.Crash.{ClearStep, LeavesBy}
 use Rattle.tup_stale.specs.Files.{SameBeside}
-use Rattle.tup_stale.specs.Unmade.{HasNoUsers, HasUsers, IsUsers, standing, unmade, written_in}
+use Rattle.tup_stale.specs.Unmade.{HasNoUsers, IsUsers, standing, unmade, written_in}
 use Rattle.tup_law_board.proofs.Unmade.{unmade_at}
-use Rattle.tup_law_board.proofs.Cleared.{IsAfter, cleared_remains, doomed_at, forgotten_at, is_own, stands_among}
+use Rattle.tup_law_board.proofs.Cleared.{IsAfter, cleared_remains, doomed_at, forgotten_at, stands_among}
 
 -- stamps that aren't unlike are the same
 stable : (one other : Stamp) → ((one ≢ other) → ⊥) → one ≡ other

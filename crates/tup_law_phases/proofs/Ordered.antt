@@ -1,13 +1,12 @@
 -- What a refresh gives is in the order of folders, and so are the rules to which it links.
-use Rattle.std.proofs.Common.{◌≡◌, ◌⊎◌, inl, inr, ℕ, zero, suc, Bool, true, false, ◌&&◌, List, [], ◌∷◌, ◌++◌, map, Option, Some, None, Result, Ok, Err, Contains, IsTrue, slice_get, refl, sym, ap, ◌∙◌, subst}
+use Rattle.std.proofs.Common.{◌≡◌, ◌⊎◌, inl, inr, zero, suc, true, false, List, [], ◌∷◌, ◌++◌, map, Result, Ok, Err, Contains, refl, sym, ap, ◌∙◌, subst}
 use Rattle.std.specs.FinMap as finite
 use Rattle.std.specs.FinMap.Entries.{below_all}
 use Rattle.std.specs.List.{AllByRecursion, IsDistinct}
-use Rattle.std.specs.Ordering.{eq_by_cmp, is_eq, is_lt}
+use Rattle.std.specs.Ordering.{is_eq, is_lt}
 use Rattle.std.specs.declared.cmp.Ordering.{Ordering}
 use Rattle.std.specs.declared.cmp.Ordering.TheVariants.{Less, Equal, Greater}
 use Rattle.std.proofs.lemmas.Bool.{and_parts, false≢true, true≢false}
-use Rattle.std.proofs.lemmas.List.{map-append}
 use Rattle.std.proofs.lemmas.List.Elements.{Contains-append_cases}
 use Rattle.std.proofs.lemmas.Option.{same_Some, none-some}
 use Rattle.tup_path.specs.Name.{Names}

@@ -1,5 +1,5 @@
 -- A graph that entries stand for has flags of rules alone.
-use Rattle.std.proofs.Common.{◌≡◌, ℕ, ◌<◌, Bool, true, false, cond, is_some, List, [], ◌∷◌, ◌++◌, length, None, Some, refl, sym, ap, subst, ◌∙◌, arith, length-append}
+use Rattle.std.proofs.Common.{◌≡◌, ℕ, ◌<◌, Bool, true, false, cond, is_some, [], ◌∷◌, ◌++◌, length, Some, refl, sym, ap, subst, ◌∙◌, arith, length-append}
 use Rattle.std.specs.Cmp.{nat_cmp_total}
 use Rattle.std.specs.FinMap as finite
 use Rattle.std.specs.FinMap.{nat_cmp-IsAntisymmetric}
@@ -8,7 +8,7 @@ use Rattle.std.proofs.lemmas.Bool.{lt-ltb, ltb-true}
 use Rattle.tup_record.specs.declared.record.Record.{Record}
 use Rattle.tup_record.specs.declared.record.Record.TheVariants as records
 use Rattle.tup_table.specs.Entries.{Standing}
-use Rattle.tup_graph.specs.Graph.{GraphState, empty_graph, is_rule, is_flagged}
+use Rattle.tup_graph.specs.Graph.{GraphState, empty_graph, is_rule}
 use Rattle.tup_graph.specs.Opening.{fits, put, Leads, IsGraphOf}
 use Rattle.tup_graph.proofs.Maps.{equal_of}
 use Rattle.tup_partial.specs.Plan.{AreFlagsOfRules}

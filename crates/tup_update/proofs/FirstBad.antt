@@ -6,8 +6,6 @@ use Rattle.std.proofs.lemmas.Option.{none-some, same_Some}
 use Rattle.tup_path.specs.Name.{Names}
 use Rattle.tup_stamp.specs.declared.Stamp.{Stamp}
 use Rattle.tup_rule.specs.declared.rule.Rule.{Rule}
-use Rattle.tup_rule.specs.declared.rule.RuleName.{RuleName}
-use Rattle.tup_rule.specs.Rule.{name_of}
 use Rattle.tup_access.specs.declared.verdict.Verdict.{Verdict}
 use Rattle.tup_access.specs.declared.verdict.Verdict.TheVariants.{Good, Failed, IllegalRead, IllegalWrite, Unwritten, TooManyReads}
 use Rattle.tup_core.specs.declared.event.Cause.{Cause}
@@ -21,8 +19,7 @@ use Rattle.tup_core.specs.Run.{IsRun, end_of}
 use Rattle.tup_core.proofs.Changed.{changed_here}
 use Rattle.tup_core.proofs.Orderly.{finished_is}
 use Rattle.tup_clean.specs.Clean.{is_good}
-use Rattle.tup_promise.specs.declared.stop.Stop.TheVariants as stop
-use Rattle.tup_update.specs.Run.{IsBadRule, IsEnd, IsFirstBad, IsLower, IsLowest}
+use Rattle.tup_update.specs.Run.{IsBadRule, IsLower, IsLowest}
 use Rattle.tup_update.specs.declared.ended.BadRule.{BadRule}
 use Rattle.tup_update.specs.Ended.{claimed_by, nothing_claimed}
 use Rattle.tup_update.proofs.Claimed.{Knows, claimed_after, knows_after, knows_none}
@@ -198,18 +195,6 @@ pub read_all : (plan : Plan) (last : State) (rest : List CoreEvent) (claimed : L
 read_all plan last rest claimed first none is =
     let end : is.state ≡ last = subst (λ (left : List CoreEvent). end_of plan is.state left ≡ last) none is.ends in
     subst (λ (s : State). IsLowest plan.rules s.bad first) end is.lowest
-
--- ---- what is told of it
--- the stop at the first bad verdict
-pub stops_at : (rules : List Rule) (bad : ℕ → Option Verdict) (one : BadRule) (name : RuleName) (verdict : Verdict) → name ≡ name_of one.rule.now → verdict ≡ one.verdict.now → is_good (Some one.verdict.now) ≡ false
-    → IsLowest rules bad (Some one) → IsEnd rules bad (Some (stop.Bad name verdict))
-stops_at rules bad one name verdict name_is same not_good lowest = record {
-  at = one.number;
-  rule = one.rule.now;
-  is = subst (IsFirstBad rules bad one.number one.rule.now) (sym same) lowest;
-  name_is = name_is;
-  not_good = ap (λ (v : Verdict). is_good (Some v)) same ∙ not_good;
-}
 
 -- ---- a run that was stopped for a bad verdict
 -- where the core is stopped for a bad verdict there is one, and the plan doesn't keep going

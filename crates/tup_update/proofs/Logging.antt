@@ -1,7 +1,7 @@
 -- What the log of an update says whose rules were run on a board.
-use Rattle.std.proofs.Common.{◌≡◌, ◌≢◌, ◌⊎◌, ◌<◌, inl, inr, ℕ, Bool, true, false, List, [], ◌∷◌, ◌++◌, length, map, Option, None, Some, Result, Ok, Err, refl, sym, ap, subst, arith, append-nil, append_assoc, ◌∙◌}
+use Rattle.std.proofs.Common.{◌≡◌, ◌≢◌, ◌⊎◌, ◌<◌, inl, inr, ℕ, Bool, true, false, List, [], ◌∷◌, ◌++◌, length, map, Option, None, Some, refl, sym, ap, subst, arith, append-nil, append_assoc, ◌∙◌}
 use Rattle.std.specs.List.Sorted.{IsPermutation}
-use Rattle.std.specs.Prelude.{All, IfErr, IfOk, OnOk}
+use Rattle.std.specs.Prelude.{All}
 use Rattle.std.specs.Bool.{nat_eq}
 use Rattle.std.specs.List.{AllByRecursion, IsDistinct, slice_get}
 use Rattle.std.proofs.lemmas.Bool.Decides.{eqb_tells}
@@ -40,7 +40,6 @@ use Rattle.tup_promise.specs.declared.log.Step.{Step}
 use Rattle.tup_promise.specs.declared.stop.Stop.{Stop}
 use Rattle.tup_promise.specs.declared.stop.Stop.TheVariants as stop
 use Rattle.tup_phases.specs.Prepared.{LogsBefore, StopsBefore}
-use Rattle.tup_promise.specs.Stopped.{no_memory}
 use Rattle.tup_phases.specs.Spared.{LeavesTree}
 use Rattle.tup_update.specs.Ended.{TellsAll, TellsFor, TellsFront, ends, nothing_claimed, numbers, told_ends, told_of}
 use Rattle.tup_update.specs.Names.{name_in}
@@ -452,9 +451,3 @@ tells_front whole old new (Some (stop.Bad name verdict)) all = whole_front whole
 tells_front whole old new (Some stop.Run) front = front
 tells_front whole old new (Some stop.Full) front = front
 tells_front whole old new (Some (stop.Outside why)) front = front
-
--- of an answer or want of memory
-pub answer_tells : {E : Type 0} (whole old new : List EndedRule) (answer : Result (Option Stop) E) (stopped : Option Stop) → IfOk answer (λ given. stopped ≡ given) → IfErr answer (λ _. stopped ≡ Some no_memory) →
-    TellsFront whole old new → OnOk answer (TellsAll whole old new) → TellsFor whole old new stopped
-answer_tells whole old new (Ok given) stopped is memory front all = all_tells whole old new all stopped
-answer_tells whole old new (Err why) stopped is memory front all = subst (TellsFor whole old new) (sym memory) front
