@@ -1,5 +1,5 @@
--- Where nothing stands in the way of an update, it is done, but for want of memory: every other cause is excluded. So it is of finding out what it would do.
-use Rattle.std.proofs.Common.{◌≡◌, ◌⊎◌, ⊎_elim, inl, inr, ℕ, ◌<◌, ◌≤◌, true, false, List, [], Option, Some, Ok, Err, refl, sym, ap, subst, ◌∙◌, arith}
+-- Where nothing stands in the way of an update, it is done, but for want of memory or of room in the store: every other cause is excluded. So it is of finding out what it would do.
+use Rattle.std.proofs.Common.{◌≡◌, ◌⊎◌, ⊎_elim, ℕ, ◌<◌, ◌≤◌, true, false, List, Option, Some, Ok, Err, refl, sym, ap, subst, ◌∙◌, arith}
 use Rattle.std.specs.FinMap as finite
 use Rattle.std.specs.Prelude.{length, slice_get}
 use Rattle.std.specs.List.{list_all}
@@ -30,12 +30,9 @@ use Rattle.tup_promise.specs.declared.fault.SourcesFault.{SourcesFault}
 use Rattle.tup_promise.specs.declared.fault.SourcesFault.TheVariants as sources
 use Rattle.tup_promise.specs.declared.stop.Stop.TheVariants.{Sources}
 use Rattle.tup_promise.proofs.Stored.{some_bytes, undamaged}
-use Rattle.tup_phases.specs.Room.{LacksRoom}
-use Rattle.tup_ends.specs.Room.{LacksRoomToRun}
-use Rattle.tup_update.specs.Full.{HasFullCause}
 use Rattle.tup_top.specs.Promise.{Counts, FindsOut, HasAloneCause, HasSharedCause, IsDoneOrMemory, NothingFailed, OpensStore}
 use Rattle.tup_top.specs.Status.{IfCame}
-use Rattle.tup_top.specs.Success.{CanBeDone, CanBeListed}
+use Rattle.tup_top.specs.Success.{CanBeDone, CanBeListed, CanBeRead, IsDoneOrNoRoom}
 use Rattle.tup_top.specs.declared.status.What.TheVariants.{Files, FileSize, Commands, Links, StoreSize}
 use Rattle.tup_top.specs.declared.status.Status.{Status}
 use Rattle.tup_top.specs.declared.status.Status.TheVariants.{Done, Command, IllegalRead, IllegalWrite, Unwritten, TooManyReads, Usage, NotInit, AlreadyInit, BadStore, Parse, CircularDirs, CircularCommands, NoSuchGroup, UserFile, SiteFault, RunFault, SinkFault, TellFault, Limit, Memory, Differs}
@@ -60,14 +57,15 @@ not_both rules (project.TooMany what number) fault alike is = alike
 not_both rules project.Memory fault alike is = absurd (cc is)
 
 -- ---- sources that ask for rules have no fault
-module _ (old new : World) (g : GraphState) (stored : IsGraphIn old.store g) (can : CanBeListed old new) where
+module _ (old : World) (g : GraphState) (stored : IsGraphIn old.store g) (can : CanBeRead old) where
   no_fault : (fault : SourcesFault) → ComesToFault old fault → ⊥
   no_fault fault (h, reads, (cause, come, is)) =
       let asks = can.asks.1 in
       not_both can.asks.0 cause fault
       (projects_alike (sources_of asks.0 old.tree) (Ok can.asks.0) (Err cause) asks.2 (subst (λ (k : GraphState). ComeTo (sources_of k old.tree) (Err cause)) (one_in_bytes old.store h asks.0 reads asks.1) come)) is
 
-  -- finding out what an update would do ends well
+-- ---- finding out what an update would do ends well
+module _ (old new : World) (g : GraphState) (stored : IsGraphIn old.store g) (can : CanBeListed old new) where
   pub finds_so : (kept : Type 0) (before now : Counts) (status : Status) → kept → IfCame status (FindsOut kept old new) → HasAloneCause before now status → (status ≡ TellFault → ⊥) → NothingFailed before now → IsDoneOrMemory status
   finds_so kept before now (Done read ran removed) here finds counted told fine = tt
   finds_so kept before now (Command rule status) here finds counted told fine = absurd finds.stops
@@ -79,24 +77,24 @@ module _ (old new : World) (g : GraphState) (stored : IsGraphIn old.store g) (ca
   finds_so kept before now NotInit here finds counted told fine = some_bytes old.store g stored finds.opens.2.0
   finds_so kept before now AlreadyInit here finds counted told fine = absurd finds
   finds_so kept before now (BadStore offset) here finds counted told fine = undamaged old.store g offset stored finds.opens.2.0
-  finds_so kept before now (Parse fault) here finds counted told fine = no_fault (sources.Parse fault) (finds.blamed here)
-  finds_so kept before now (CircularDirs cycle) here finds counted told fine = no_fault (sources.CircularDirs cycle) (finds.blamed here)
-  finds_so kept before now (CircularCommands cycle) here finds counted told fine = no_fault (sources.CircularCommands cycle) (finds.blamed here)
-  finds_so kept before now (NoSuchGroup group) here finds counted told fine = no_fault (sources.NoSuchGroup group) (finds.blamed here)
+  finds_so kept before now (Parse fault) here finds counted told fine = no_fault old g stored can.read (sources.Parse fault) (finds.blamed here)
+  finds_so kept before now (CircularDirs cycle) here finds counted told fine = no_fault old g stored can.read (sources.CircularDirs cycle) (finds.blamed here)
+  finds_so kept before now (CircularCommands cycle) here finds counted told fine = no_fault old g stored can.read (sources.CircularCommands cycle) (finds.blamed here)
+  finds_so kept before now (NoSuchGroup group) here finds counted told fine = no_fault old g stored can.read (sources.NoSuchGroup group) (finds.blamed here)
   finds_so kept before now (UserFile path) here (written, found, finds) counted told fine = absurd finds.stops
   finds_so kept before now SiteFault here finds counted told fine = not_rose before.site now.site fine.site fine.site_counts counted.0
   finds_so kept before now RunFault here finds counted told fine = absurd finds.stops
   finds_so kept before now SinkFault here finds counted told fine = not_rose before.sink now.sink fine.sink fine.sink_counts counted.1
   finds_so kept before now TellFault here finds counted told fine = told refl
-  finds_so kept before now (Limit FileSize number) here (count, passed, finds) counted told fine = can.small count passed (finds.blamed here)
-  finds_so kept before now (Limit Files number) here (count, passed, finds) counted told fine = too_many count (length (finite.keys old.tree)) passed (finds.blamed here) can.few
-  finds_so kept before now (Limit Commands number) here (count, passed, finds) counted told fine = no_fault (sources.TooManyCommands count) (finds.blamed here)
-  finds_so kept before now (Limit Links number) here (count, passed, finds) counted told fine = no_fault (sources.TooManyLinks count) (finds.blamed here)
+  finds_so kept before now (Limit FileSize number) here (count, passed, finds) counted told fine = can.read.small count passed (finds.blamed here)
+  finds_so kept before now (Limit Files number) here (count, passed, finds) counted told fine = too_many count (length (finite.keys old.tree)) passed (finds.blamed here) can.read.few
+  finds_so kept before now (Limit Commands number) here (count, passed, finds) counted told fine = no_fault old g stored can.read (sources.TooManyCommands count) (finds.blamed here)
+  finds_so kept before now (Limit Links number) here (count, passed, finds) counted told fine = no_fault old g stored can.read (sources.TooManyLinks count) (finds.blamed here)
   finds_so kept before now (Limit StoreSize number) here finds counted told fine = can.room (finds.full here)
   finds_so kept before now Memory here finds counted told fine = tt
   finds_so kept before now (Differs path) here finds counted told fine = absurd finds
 
--- ---- nor is a rule bad, or a store full
+-- ---- nor is a rule bad
 module _ {S : Type 0} (site : Site S) (next : Next) (old new : S) (g : GraphState) (stored : IsGraphIn (site.world old).store g) (can : CanBeDone site next old new) where
   abbrev first : World
   first = site.world old
@@ -112,38 +110,34 @@ module _ {S : Type 0} (site : Site S) (next : Next) (old new : S) (g : GraphStat
       bad builds.2
 
   no_large : (bytes : ℕ) → most_bytes < bytes → HasFileOf bytes first.tree ⊎ HasFileOf bytes left.tree → ⊥
-  no_large bytes passed = ⊎_elim (can.listed.small bytes passed) (can.small bytes passed)
+  no_large bytes passed = ⊎_elim (can.read.small bytes passed) (can.small bytes passed)
 
-  not_full : (ran : List RuleName) → ((ran ≡ []) × LacksRoom left) ⊎ ((w : World) × site.left_since new (site.moment old) w × LacksRoomToRun first w ran) → ⊥
-  not_full ran (inl (none, lacks)) = can.listed.room lacks
-  not_full ran (inr (w, there, lacks)) = can.room w ran there lacks
-
-  -- an update ends well
-  pub updates_so : (ran : List RuleName) (before now : Counts) (status : Status) → IfCame status (OpensStore first left ran) → IfCame status (IsToBlame next first left ran) → IfCame status (HasFullCause site old new ran)
-      → HasSharedCause before now status → (status ≡ TellFault → ⊥) → NothingFailed before now → IsDoneOrMemory status
-  updates_so ran before now (Done read done removed) opens blamed full counted told fine = tt
-  updates_so ran before now (Command rule status) opens blamed full counted told fine = no_bad ran rule (Failed status) refl blamed
-  updates_so ran before now (IllegalRead rule text) opens blamed full counted told fine = no_bad ran rule (ReadsIllegally text) refl blamed
-  updates_so ran before now (IllegalWrite rule text) opens blamed full counted told fine = no_bad ran rule (WritesIllegally text) refl blamed
-  updates_so ran before now (Unwritten rule path) opens blamed full counted told fine = no_bad ran rule (LeavesUnwritten path) refl blamed
-  updates_so ran before now (TooManyReads rule) opens blamed full counted told fine = no_bad ran rule ReadsTooOften refl blamed
-  updates_so ran before now (Usage place) opens blamed full counted told fine = absurd counted
-  updates_so ran before now NotInit opens blamed full counted told fine = some_bytes first.store g stored opens.2.0
-  updates_so ran before now AlreadyInit opens blamed full counted told fine = absurd counted
-  updates_so ran before now (BadStore offset) opens blamed full counted told fine = undamaged first.store g offset stored opens.2.0
-  updates_so ran before now (Parse fault) opens blamed full counted told fine = no_fault first left g stored can.listed (sources.Parse fault) blamed
-  updates_so ran before now (CircularDirs cycle) opens blamed full counted told fine = no_fault first left g stored can.listed (sources.CircularDirs cycle) blamed
-  updates_so ran before now (CircularCommands cycle) opens blamed full counted told fine = no_fault first left g stored can.listed (sources.CircularCommands cycle) blamed
-  updates_so ran before now (NoSuchGroup group) opens blamed full counted told fine = no_fault first left g stored can.listed (sources.NoSuchGroup group) blamed
-  updates_so ran before now (UserFile path) opens (written, found, blamed) full counted told fine = can.unhindered (path, written, found, blamed.users)
-  updates_so ran before now SiteFault opens blamed full counted told fine = not_rose before.site now.site fine.site fine.site_counts counted
-  updates_so ran before now RunFault opens blamed full counted told fine = no_runner_rose before now fine counted
-  updates_so ran before now SinkFault opens blamed full counted told fine = not_rose before.sink now.sink fine.sink fine.sink_counts counted.1
-  updates_so ran before now TellFault opens blamed full counted told fine = told refl
-  updates_so ran before now (Limit FileSize number) opens (count, passed, large) full counted told fine = no_large count passed large
-  updates_so ran before now (Limit Files number) opens (count, passed, many) full counted told fine = too_many count (length (finite.keys first.tree)) passed many can.listed.few
-  updates_so ran before now (Limit Commands number) opens (count, passed, fault) full counted told fine = no_fault first left g stored can.listed (sources.TooManyCommands count) fault
-  updates_so ran before now (Limit Links number) opens (count, passed, fault) full counted told fine = no_fault first left g stored can.listed (sources.TooManyLinks count) fault
-  updates_so ran before now (Limit StoreSize number) opens blamed full counted told fine = not_full ran full
-  updates_so ran before now Memory opens blamed full counted told fine = tt
-  updates_so ran before now (Differs path) opens blamed full counted told fine = absurd counted
+  -- an update ends well, or for want of room
+  pub updates_so : (ran : List RuleName) (before now : Counts) (status : Status) → IfCame status (OpensStore first left ran) → IfCame status (IsToBlame next first left ran)
+      → HasSharedCause before now status → (status ≡ TellFault → ⊥) → NothingFailed before now → IsDoneOrNoRoom status
+  updates_so ran before now (Done read done removed) opens blamed counted told fine = tt
+  updates_so ran before now (Command rule status) opens blamed counted told fine = no_bad ran rule (Failed status) refl blamed
+  updates_so ran before now (IllegalRead rule text) opens blamed counted told fine = no_bad ran rule (ReadsIllegally text) refl blamed
+  updates_so ran before now (IllegalWrite rule text) opens blamed counted told fine = no_bad ran rule (WritesIllegally text) refl blamed
+  updates_so ran before now (Unwritten rule path) opens blamed counted told fine = no_bad ran rule (LeavesUnwritten path) refl blamed
+  updates_so ran before now (TooManyReads rule) opens blamed counted told fine = no_bad ran rule ReadsTooOften refl blamed
+  updates_so ran before now (Usage place) opens blamed counted told fine = absurd counted
+  updates_so ran before now NotInit opens blamed counted told fine = some_bytes first.store g stored opens.2.0
+  updates_so ran before now AlreadyInit opens blamed counted told fine = absurd counted
+  updates_so ran before now (BadStore offset) opens blamed counted told fine = undamaged first.store g offset stored opens.2.0
+  updates_so ran before now (Parse fault) opens blamed counted told fine = no_fault first g stored can.read (sources.Parse fault) blamed
+  updates_so ran before now (CircularDirs cycle) opens blamed counted told fine = no_fault first g stored can.read (sources.CircularDirs cycle) blamed
+  updates_so ran before now (CircularCommands cycle) opens blamed counted told fine = no_fault first g stored can.read (sources.CircularCommands cycle) blamed
+  updates_so ran before now (NoSuchGroup group) opens blamed counted told fine = no_fault first g stored can.read (sources.NoSuchGroup group) blamed
+  updates_so ran before now (UserFile path) opens (written, found, blamed) counted told fine = can.unhindered (path, written, found, blamed.users)
+  updates_so ran before now SiteFault opens blamed counted told fine = not_rose before.site now.site fine.site fine.site_counts counted
+  updates_so ran before now RunFault opens blamed counted told fine = no_runner_rose before now fine counted
+  updates_so ran before now SinkFault opens blamed counted told fine = not_rose before.sink now.sink fine.sink fine.sink_counts counted.1
+  updates_so ran before now TellFault opens blamed counted told fine = told refl
+  updates_so ran before now (Limit FileSize number) opens (count, passed, large) counted told fine = absurd (no_large count passed large)
+  updates_so ran before now (Limit Files number) opens (count, passed, many) counted told fine = absurd (too_many count (length (finite.keys first.tree)) passed many can.read.few)
+  updates_so ran before now (Limit Commands number) opens (count, passed, fault) counted told fine = absurd (no_fault first g stored can.read (sources.TooManyCommands count) fault)
+  updates_so ran before now (Limit Links number) opens (count, passed, fault) counted told fine = absurd (no_fault first g stored can.read (sources.TooManyLinks count) fault)
+  updates_so ran before now (Limit StoreSize number) opens blamed counted told fine = refl
+  updates_so ran before now Memory opens blamed counted told fine = tt
+  updates_so ran before now (Differs path) opens blamed counted told fine = absurd counted

@@ -164,8 +164,8 @@ pub fn tup<W: Threads + Wait + Sync, S: Site + Send, R: Runner + Send, T: Report
     ensures users { IsTrue S.tells → IsKeptBySome S.Site.own site → HasUsersFile (S.world site)
         → ForUpdate (order words.now) result.status
         (IsHeldUp S.Site.own site result.site result.ran) }
-    // Where nothing stands in its way and nothing fails, it is done, unless there was no memory. So is
-    // finding out what it would do, whatever the runner is.
+    // Where nothing stands in its way and nothing fails, it is done, unless there was no memory or no room in
+    // the store. So is finding out what it would do, whatever the runner is.
     ensures success { KeptHere S.Site.own R.Runner.own site
         → let before = counts S.faults R.faults K.faults site crew.items out.old in
         let now = counts S.faults R.faults K.faults result.site result.crew.items out.new in

@@ -422,7 +422,7 @@ pub returns-in-Ok-Upd-clause-success : goal.returns-in-Ok-Upd-clause-success
 returns-in-Ok-Upd-clause-success g c = λ here _ can fine told.
     let update = c.update_by-status in
     updates_so g.S.Site g.R.Runner.next c.args.site update.result.site here.kept.now.graph here.kept.now.reads can update.result.ran _ _ update.result.status (update.ensures.opens_store here.tells) (update.ensures.blamed here)
-    (update.ensures.full here) update.ensures.counted_cause.any (λ is. update.ensures.blamed_reporter is told) fine
+    update.ensures.counted_cause.any (λ is. update.ensures.blamed_reporter is told) fine
 
 pub returns-in-Ok-Todo-clause-lists : goal.returns-in-Ok-Todo-clause-lists
 returns-in-Ok-Todo-clause-lists g c = λ tells some _ can fine told.
