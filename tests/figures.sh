@@ -11,10 +11,12 @@ git ls-files -z -- crates crates.txt HANDLES | xargs -0 cp --parents -t "$work"
 for out in crates/*/out; do
     if [ -d "$out" ]; then cp -al "$out" "$work/$out" 2>/dev/null || cp -a "$out" "$work/$out"; fi
 done
-mkdir -p "$work/crates/tup_figures/src"
+mkdir -p "$work/crates/tup_figures/src" "$work/crates/tup_figures/specs" "$work/crates/tup_figures/proofs/figures/note"
+touch "$work/crates/tup_figures/specs/Lib.antt" "$work/crates/tup_figures/proofs/Lib.antt"
 for part in main figures store; do
     cp "tests/figures/$part.txt" "$work/crates/tup_figures/src/$part.rt"
 done
+cp tests/figures/note.txt "$work/crates/tup_figures/proofs/figures/note/Invariants.antt"
 echo '200 rules' > "$work/crates/tup_figures/stdout"
 echo 'tup_figures: tup_path tup_stamp tup_site tup_rule tup_scan tup_record tup_table tup_graph tup_stored_graph tup_commit' >> "$work/crates.txt"
 cd "$work/crates/tup_figures"

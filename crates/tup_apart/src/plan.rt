@@ -1,5 +1,5 @@
 //! The plan of an update, tested.
-ghost use Rattle.std.specs.Prelude.{◌≡◌, ◌↔◌, ℕ, true, All, Contains, IfOk, IfSome, IsTrue, None, Ok};
+ghost use Rattle.std.specs.Prelude.{◌≡◌, ◌↔◌, ◌<◌, ℕ, true, All, Contains, IfOk, IfSome, IsTrue, None, Ok};
 ghost use Rattle.std.specs.List.Sorted.{IsStrictlySortedBy};
 ghost use Rattle.std.specs.Ordering.{nat_cmp};
 ghost use Rattle.tup_core.specs.Sound.{IsInRange};
@@ -14,7 +14,9 @@ use crate::makers::{have_one_maker, makers_of};
 use crate::once::name_once;
 use crate::place::have_places;
 use std::alloc::{AllocError, Global};
-use tup_closure::runs_are_of_rules;
+use std::marker::Brand;
+use std::sync::ledger::{Blank, Ledger};
+use tup_closure::{Steps, runs_are_of_rules};
 use tup_core::Plan;
 use tup_graph::Nodes;
 use tup_partial::{flags_are_of_rules, plan_of};
@@ -46,9 +48,28 @@ fn planned(alloc: Global, graph: &Graph, keep_going: bool) -> Result<Plan, Alloc
     ensures ascending { IfOk result (λ plan. IsStrictlySortedBy nat_cmp plan.reach) }
     ensures keep_going { IfOk result (λ plan. plan.keep_going ≡ keep_going) }
 {
+    planned_uncounted::<Brand>(alloc, graph, keep_going, Blank::new(1))
+}
+
+/// That plan, with a blank of which the steps are made that it takes.
+fn planned_uncounted<L: Ledger>(
+    alloc: Global,
+    graph: &Graph,
+    keep_going: bool,
+    blank: Blank,
+) -> Result<Plan, AllocError>
+    requires name { blank.name ≡ L.name }
+    requires parts { blank.parts ≡ L.parts }
+    requires some { 0 < blank.parts }
+    requires fresh { IsTrue (is_fresh graph.now) }
+    ensures planned { IfOk result (IsPlanned graph.now.nodes) }
+    ensures ascending { IfOk result (λ plan. IsStrictlySortedBy nat_cmp plan.reach) }
+    ensures keep_going { IfOk result (λ plan. plan.keep_going ≡ keep_going) }
+{
     runs_are_of_rules();
     flags_are_of_rules();
-    match plan_of(alloc, graph.indexed(), keep_going) {
+    let mut steps = Steps::<L>::none(blank);
+    match plan_of(alloc, graph.indexed(), keep_going, &mut steps) {
         Ok(plan) => Ok(plan),
         Err(_) => Err(AllocError),
     }

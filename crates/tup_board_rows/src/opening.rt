@@ -11,9 +11,11 @@ use crate::project::{Given, reach_at};
 use crate::quiet::Quiet;
 use crate::store::site_of;
 use std::alloc::Global;
+use std::marker::Brand;
+use std::sync::ledger::Blank;
 use tup_apart::plan_over;
 use tup_board::Board;
-use tup_commit::note_scan;
+use tup_commit::uncounted::note_scan;
 use tup_core::Plan;
 use tup_path::Path;
 use tup_rows::{RowFault, Words};
@@ -193,7 +195,7 @@ fn takes_note<S: Site>(alloc: Global, site: &mut S, graph: &mut Graph, seen: &Se
     requires seen { IsTrue S.tells → IsSeen (S.world site.old).tree seen.now }
     ensures { IsTrue result → IsReady S.Site.own graph.new site.new }
 {
-    match note_scan(alloc, graph, site, seen) {
+    match note_scan::<S, Brand>(alloc, graph, site, seen, Blank::new(1)) {
         Ok(()) => graph.fresh(),
         Err(_) => false,
     }

@@ -1,7 +1,11 @@
 pub mod Growing
 pub mod Members
+pub mod Ordered
+pub mod Counting
+pub mod Reading
 pub mod Listed
 pub mod Asked
 pub mod Walking
+pub mod Stepping
 pub mod Stored
 pub mod Copied

@@ -1,22 +1,27 @@
 -- Walks from rules to those that read what they make.
-use Rattle.std.specs.Prelude.{◌≡◌, ◌⊎◌, ◌↔◌, ℕ, zero, suc, ◌+◌, ◌-◌, ◌<◌, true, List, [], ◌∷◌, ◌++◌, Option, None, Some, Contains, length, slice_get, unwrap_or, option_map}
+use Rattle.std.specs.Prelude.{◌≡◌, ◌⊎◌, ◌↔◌, ℕ, zero, suc, ◌+◌, ◌-◌, ◌<◌, true, false, List, [], ◌∷◌, ◌++◌, Option, None, Some, Contains, length, slice_get, sum_by, unwrap_or, option_map}
 use Rattle.std.proofs.Common.{refl, sym, ap, subst, ◌∙◌, inl, inr, take, get_or, arith, length-append}
 use Rattle.std.proofs.lemmas.Bool.{true≢false, ltb-true}
 use Rattle.std.proofs.lemmas.List.Elements.{Contains-push, Contains-push_cases, Contains-append_left}
-use Rattle.std.specs.BTreeSet.{BTreeSet, contains, IsOrdered}
+use Rattle.std.proofs.lemmas.List.Sums.{sum_by_push}
+use Rattle.std.specs.BTreeSet.{BTreeSet, contains, insert_key, IsOrdered, Updates}
+use Rattle.std.specs.List.{list_any}
 use Rattle.std.specs.List.Sorted.{IsStrictlySortedBy}
-use Rattle.std.specs.Ordering.{nat_cmp}
+use Rattle.std.specs.Ordering.{nat_cmp, eq_by_cmp}
 use Rattle.tup_path.specs.Name.{Names}
 use Rattle.tup_rule.specs.declared.rule.Rule.{Rule}
 use Rattle.tup_rule.proofs.Laws.{among-decides}
 use Rattle.tup_graph.specs.Above.{AboveOver, HasAsked, HasReadOf, IsAbove}
 use Rattle.tup_graph.specs.Graph.{GraphState, is_rule, outputs_of}
 use Rattle.tup_closure.specs.Readers.{AreRunsOfRules, HasAskedOneOf}
+use Rattle.tup_closure.specs.Grows.{Grows}
 use Rattle.tup_closure.specs.Walk.{IsReached, IsWaiting, GoesTo, IsDone, IsWalk}
 use Rattle.tup_closure.specs.declared.walk.Walk.{Walk}
-use Rattle.tup_closure.proofs.Growing.{grows_on, grows_as}
-use Rattle.tup_closure.proofs.Members.{contained, in_set, in_empty, few_below, number-decides}
+use Rattle.tup_closure.proofs.Growing.{grows_on, grows_as, grows_nothing}
+use Rattle.tup_closure.proofs.Counting.{counted, sum_inserted}
+use Rattle.tup_closure.proofs.Members.{contained, in_set, in_empty, inserted, few_below, number-decides}
 use Rattle.tup_closure.proofs.Asked.{asked_more}
+use Rattle.tup_closure.proofs.Ordered.{none_in}
 
 -- ---- one way behind another
 
@@ -26,7 +31,7 @@ goes_on {P} {Q} {a} {b} {c} one two = record {
   waits = λ n r. waits n (two.waits n r);
   still = λ n w. two.still n (one.still n w);
   no_others = λ n w. others n (two.no_others n w);
-  as_many = let first = one.as_many in let second = two.as_many in omega arith;
+  weighs = λ weight. let first = one.weighs weight in let second = two.weighs weight in omega arith;
   more = let first = one.more in let second = two.more in omega arith;
   ordered = λ o. two.ordered (one.ordered o);
 }
@@ -45,7 +50,7 @@ goes_as {P} {Q} {a} {b} to from one = record {
   waits = one.waits;
   still = one.still;
   no_others = λ n w. others n (one.no_others n w);
-  as_many = one.as_many;
+  weighs = one.weighs;
   more = one.more;
   ordered = one.ordered;
 }
@@ -54,8 +59,70 @@ goes_as {P} {Q} {a} {b} to from one = record {
     others n (inl was) = inl was
     others n (inr p) = inr (to n p)
 
-none_listed : {X : Type 0} (x : X) → Contains [] x → ⊥
-none_listed x h = let less = h.1 in omega arith
+-- a walk that goes on to no rule
+pub goes_nowhere : {Rules : ℕ → Type 0} (a : Walk) → ((n : ℕ) → Rules n → ⊥) → GoesTo Rules a a
+goes_nowhere a none = record {
+  reached = grows_nothing none;
+  waits = λ n r. inl r;
+  still = λ n w. w;
+  no_others = λ n w. inl w;
+  weighs = λ weight. refl;
+  more = omega arith;
+  ordered = λ o. o;
+}
+
+-- ---- one number
+
+-- a walk comes to a rule to which it had come before
+pub goes_to_old : (n : ℕ) (a b : Walk) → b.reached.keys ≡ a.reached.keys → b.waiting.items ≡ a.waiting.items → contains nat_cmp a.reached n ≡ true → GoesTo (λ m. m ≡ n) a b
+goes_to_old n a b keys waits here = record {
+  reached = record {
+    only = λ m r. inl (was m r);
+    all = λ m e. stays m (subst (IsReached a) (sym e) here);
+    kept = stays;
+  };
+  waits = λ m r. inl (was m r);
+  still = λ m w. subst (λ (l : List ℕ). Contains l m) (sym waits) w;
+  no_others = λ m w. inl (subst (λ (l : List ℕ). Contains l m) waits w);
+  weighs = λ weight.
+      let left = ap (sum_by weight) waits in
+      let came = ap (sum_by weight) keys in
+      omega arith;
+  more = let same = ap (λ (l : List ℕ). length l) keys in omega arith;
+  ordered = λ o. subst (λ (l : List ℕ). IsStrictlySortedBy nat_cmp l) (sym keys) o;
+}
+  where
+    was : (m : ℕ) → IsReached b m → IsReached a m
+    was m r = subst (λ (l : List ℕ). list_any (eq_by_cmp nat_cmp m) l ≡ true) keys r
+
+    stays : (m : ℕ) → IsReached a m → IsReached b m
+    stays m r = subst (λ (l : List ℕ). list_any (eq_by_cmp nat_cmp m) l ≡ true) (sym keys) r
+
+-- a walk comes to a new rule, which waits then
+pub goes_to_new : (n : ℕ) (a b : Walk) → Updates nat_cmp a.reached b.reached n true → b.reached.keys ≡ insert_key nat_cmp a.reached.keys n → contains nat_cmp a.reached n ≡ false
+    → IsOrdered nat_cmp b.reached → b.waiting.items ≡ a.waiting.items ++ n ∷ [] → GoesTo (λ m. m ≡ n) a b
+goes_to_new n a b up keys new order pushed = record {
+  reached = grown;
+  waits = λ m r. elim (grown.only m r) [ inl was ↦ inl was | inr e ↦ inr (subst (IsWaiting b) (sym e) last) ];
+  still = λ m w. subst (λ (l : List ℕ). Contains l m) (sym pushed) (Contains-append_left a.waiting.items (n ∷ []) m w);
+  no_others = λ m w. elim (Contains-push_cases a.waiting.items n m (subst (λ (l : List ℕ). Contains l m) pushed w)) [ inl before ↦ inl before | inr here ↦ inr (sym here) ];
+  weighs = λ weight.
+      let left : sum_by weight b.waiting.items ≡ sum_by weight a.waiting.items + weight n = ap (sum_by weight) pushed ∙ sum_by_push weight a.waiting.items n in
+      let came : sum_by weight b.reached.keys ≡ weight n + sum_by weight a.reached.keys = ap (sum_by weight) keys ∙ sum_inserted weight a.reached.keys n new in
+      omega arith;
+  more =
+      let came : sum_by (λ _. 1) b.reached.keys ≡ 1 + sum_by (λ _. 1) a.reached.keys = ap (sum_by (λ _. 1)) keys ∙ sum_inserted (λ _. 1) a.reached.keys n new in
+      let before = counted a.reached.keys in
+      let after = counted b.reached.keys in
+      omega arith;
+  ordered = λ _. order;
+}
+  where
+    grown : Grows (λ m. m ≡ n) (IsReached a) (IsReached b)
+    grown = inserted nat_cmp number-decides a.reached b.reached n up
+
+    last : IsWaiting b n
+    last = subst (λ (l : List ℕ). Contains l n) (sym pushed) (Contains-push a.waiting.items n)
 
 -- ---- one more number, and one more path
 
@@ -76,10 +143,10 @@ path_more g paths i path d a b c less is first one =
 
 -- ---- a walk from some roots
 
-nothing_in : (walk : Walk) (n : ℕ) → walk.reached.keys ≡ [] → IsReached walk n → ⊥
+pub nothing_in : (walk : Walk) (n : ℕ) → walk.reached.keys ≡ [] → IsReached walk n → ⊥
 nothing_in walk n empty is = true≢false (sym is ∙ in_empty nat_cmp number-decides walk.reached n empty)
 
-no_order : (keys : List ℕ) → keys ≡ [] → IsStrictlySortedBy nat_cmp keys
+pub no_order : (keys : List ℕ) → keys ≡ [] → IsStrictlySortedBy nat_cmp keys
 unfolding IsStrictlySortedBy
 no_order [] e = tt
 no_order (k ∷ keys) e = absurd (cc)
@@ -90,7 +157,7 @@ begun g roots a b empty idle rules goes = record {
   roots = goes.reached.all;
   done = λ n r. elim (goes.waits n r) [ inl was ↦ absurd (nothing_in a n empty was) | inr w ↦ inl w ];
   inside = λ n w. elim (goes.no_others n w) [
-    | inl was ↦ absurd (none_listed n (subst (λ (l : List ℕ). Contains l n) idle was))
+    | inl was ↦ absurd (none_in n (subst (λ (l : List ℕ). Contains l n) idle was))
     | inr root ↦ goes.reached.all n root
   ];
   rules = λ n r. elim (goes.reached.only n r) [ inl was ↦ absurd (nothing_in a n empty was) | inr root ↦ rules n root ];
@@ -103,7 +170,7 @@ outputs found = unwrap_or (option_map (λ (rule : Rule). rule.outputs) found) []
 
 module _ (g : GraphState) where
   read_by : (number n : ℕ) (found : Option Rule) → slice_get g.rules number ≡ found → HasAskedOneOf g (outputs found) n → (maker : Rule) × (slice_get g.rules number ≡ Some maker) × HasReadOf g n maker
-  read_by number n None here (path, h, asked) = absurd (none_listed path h)
+  read_by number n None here (path, h, asked) = absurd (none_in path h)
   read_by number n (Some maker) here (path, h, asked) = (maker, here, (path, asked, (among-decides path maker.outputs).1 h))
 
   asked_for : (number n : ℕ) (maker : Rule) → slice_get g.rules number ≡ Some maker → HasReadOf g n maker → HasAskedOneOf g (outputs_of g number) n
@@ -162,7 +229,12 @@ module _ (g : GraphState) where
         let few = few_below new.reached (length g.rules) gone_on.ordered (λ n r. ltb-true n (length g.rules) (gone_on.rules n r)) in
         let one_less = ap (λ (l : List ℕ). length l) popped ∙ length-append mid.waiting.items (number ∷ []) in
         let keys = ap (λ (s : BTreeSet ℕ). length s.keys) same in
-        let many = goes.as_many in
+        let many = goes.weighs (λ _. 1) in
+        let waited = counted old.waiting.items in
+        let left = counted mid.waiting.items in
+        let waits = counted new.waiting.items in
+        let came = counted mid.reached.keys in
+        let comes = counted new.reached.keys in
         let more = goes.more in
         omega arith
 
@@ -171,7 +243,7 @@ module _ (g : GraphState) (Root : ℕ → Type 0) (walk : Walk) (is : IsWalk g R
   reached_over : (reads n : ℕ) → AboveOver reads g Root n → IsReached walk n
   reached_over zero n root = is.roots n root
   reached_over (suc reads) n (before, maker, over, here, read) = elim (is.done before (reached_over reads before over)) [
-    | inl w ↦ absurd (none_listed before (subst (λ (l : List ℕ). Contains l before) idle w))
+    | inl w ↦ absurd (none_in before (subst (λ (l : List ℕ). Contains l before) idle w))
     | inr done ↦ done maker n here read
   ]
 

@@ -26,7 +26,7 @@ use Rattle.tup_project.specs.Project.{AreLinked}
 use Rattle.tup_graph.specs.Graph.{GraphState}
 use Rattle.tup_rule_diff.specs.Edits.{dir_of}
 use Rattle.tup_rule_diff.specs.Order.{AreByFolder}
-use Rattle.tup_scan_diff.proofs.Ordered.{front_or_behind, none_in}
+use Rattle.tup_closure.proofs.Ordered.{front_or_behind, none_in}
 use Rattle.tup_refresh.specs.declared.refreshed.Refreshed.{Refreshed}
 use Rattle.tup_refresh.specs.Refresh.{AreSorted, IsRefresh, IsRefreshWith}
 use Rattle.tup_law_graph.proofs.Lists.{at_place, in_flat_map, in_map}

@@ -14,15 +14,6 @@ use Rattle.tup_graph.specs.Records.{Language}
 use Rattle.tup_closure.specs.Readers.{AreRunsOfRules}
 use Rattle.tup_partial.specs.Plan.{AreFlagsOfRules, IsToRun}
 
--- other roots, which take these in
-module _ (g : GraphState) (Root Other : ℕ → Type 0) (also : (n : ℕ) → Root n → Other n) where
-  over_others : (reads number : ℕ) → AboveOver reads g Root number → AboveOver reads g Other number
-  over_others zero number root = also number root
-  over_others (suc reads) number (before, maker, below, here, read) = (before, maker, over_others reads before below, here, read)
-
-  pub above_others : (number : ℕ) → IsAbove g Root number → IsAbove g Other number
-  above_others number is = (is.0, over_others is.0 number is.1)
-
 module _ (g : GraphState) (runs : AreRunsOfRules g) where
   over_rule : (Root : ℕ → Type 0) → ((n : ℕ) → Root n → is_rule g n ≡ true) → (reads number : ℕ) → AboveOver reads g Root number → is_rule g number ≡ true
   over_rule Root are zero number root = are number root

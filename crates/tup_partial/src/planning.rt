@@ -1,23 +1,30 @@
 //! The plan of an update.
-ghost use Rattle.std.specs.Prelude.{◌≡◌, ◌↔◌, ℕ, true, Contains, IfOk, IfErr};
+ghost use Rattle.std.specs.Prelude.{◌≡◌, ◌↔◌, ℕ, true, Contains, IfOk, IfErr, OnErr, OnOk};
 ghost use Rattle.std.specs.List.Sorted.{IsStrictlySortedBy};
 ghost use Rattle.std.specs.Ordering.{nat_cmp};
 ghost use Rattle.tup_graph.specs.Graph.{is_flagged};
 ghost use Rattle.tup_core.specs.Sound.{IsInRange};
 ghost use Rattle.tup_closure.specs.Readers.{AreRunsOfRules};
-ghost use Rattle.tup_partial.specs.Plan.{AreFlagsOfRules, IsToRun};
+ghost use Rattle.tup_closure.specs.Steps.{HasStepped, HasSteppedAtMost};
+ghost use Rattle.tup_partial.specs.Plan.{AreFlagsOfRules, IsFlagged, IsToRun};
 
 use crate::fault::PartialFault;
 use std::alloc::{AllocError, Global};
-use tup_closure::{above, rule_count};
+use std::sync::ledger::Ledger;
+use tup_closure::{Steps, above, rule_count};
 use tup_core::{Numbers, Plan};
 use tup_graph::Nodes;
 use tup_readers::Indexed;
 use tup_rule::{Rule, Rules};
 
 /// The plan of an update: the rules of the graph in their order, and of these the flagged ones and all above them are to be
-/// run.
-pub fn plan_of(alloc: Global, graph: &Indexed, keep_going: bool) -> Result<Plan, PartialFault>
+/// run. It takes the steps of `above` from the flagged rules; after a refusal it has taken no more.
+pub fn plan_of<L: Ledger>(
+    alloc: Global,
+    graph: &Indexed,
+    keep_going: bool,
+    steps: &mut Steps<L>,
+) -> Result<Plan, PartialFault>
     // Both hold of each graph that a store stands for.
     requires runs { AreRunsOfRules graph.now }
     requires flags { AreFlagsOfRules graph.now }
@@ -28,9 +35,13 @@ pub fn plan_of(alloc: Global, graph: &Indexed, keep_going: bool) -> Result<Plan,
     ensures ascending { IfOk result (λ plan. IsStrictlySortedBy nat_cmp plan.reach) }
     ensures range { IfOk result IsInRange }
     ensures keep_going { IfOk result (λ plan. plan.keep_going ≡ keep_going) }
+    ensures steps { OnOk result
+        (HasStepped graph.now (IsFlagged graph.now) steps.old steps.new) }
+    ensures fewer { OnErr result
+        (HasSteppedAtMost graph.now (IsFlagged graph.now) steps.old steps.new) }
     ensures memory { IfErr result (λ fault. fault ≡ PartialFault.Memory) }
 {
-    let reach = reach(alloc, graph)?;
+    let reach = reach(alloc, graph, steps)?;
     let rules = copies(alloc, graph.nodes().rules())?;
     Ok(Plan {
         rules,
@@ -40,16 +51,24 @@ pub fn plan_of(alloc: Global, graph: &Indexed, keep_going: bool) -> Result<Plan,
 }
 
 /// The flagged rules and all above them.
-fn reach(alloc: Global, graph: &Indexed) -> Result<Numbers, PartialFault>
+fn reach<L: Ledger>(
+    alloc: Global,
+    graph: &Indexed,
+    steps: &mut Steps<L>,
+) -> Result<Numbers, PartialFault>
     requires runs { AreRunsOfRules graph.now }
     requires flags { AreFlagsOfRules graph.now }
     ensures reach { IfOk result (λ numbers. (number : ℕ)
         → Contains numbers number ↔ IsToRun graph.now number) }
     ensures ascending { IfOk result (λ numbers. IsStrictlySortedBy nat_cmp numbers) }
+    ensures steps { OnOk result
+        (HasStepped graph.now (IsFlagged graph.now) steps.old steps.new) }
+    ensures fewer { OnErr result
+        (HasSteppedAtMost graph.now (IsFlagged graph.now) steps.old steps.new) }
     ensures memory { IfErr result (λ fault. fault ≡ PartialFault.Memory) }
 {
     let flagged = flagged(alloc, graph.nodes())?;
-    let numbers = above(alloc, graph, flagged.as_slice())?;
+    let numbers = above(alloc, graph, flagged.as_slice(), steps)?;
     Ok(numbers)
 }
 

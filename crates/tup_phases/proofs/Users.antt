@@ -22,7 +22,8 @@ use Rattle.tup_graph.specs.Graph.{GraphState}
 use Rattle.tup_graph.specs.Kept.{HasMakers}
 use Rattle.tup_graph.specs.Swap.{IsSwapped}
 use Rattle.tup_law_graph.specs.Fitting.{AreFitting}
-use Rattle.tup_scan_diff.proofs.Editing.{entry_found, in_filter}
+use Rattle.tup_closure.proofs.Reading.{in_filter}
+use Rattle.tup_scan_diff.proofs.Editing.{entry_found}
 use Rattle.tup_law_graph.proofs.Lists.{map_in}
 use Rattle.tup_law_graph.proofs.Swapping.{owned_by, owned_if}
 use Rattle.tup_law_site.proofs.Stores.{one_in_bytes}

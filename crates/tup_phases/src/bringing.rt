@@ -18,7 +18,9 @@ ghost use Rattle.tup_phases.specs.Prepared.{HasSeen, RunsNone, StopsReading};
 ghost use Rattle.tup_phases.specs.Room.{FillsStore};
 
 use std::alloc::{AllocError, Global};
-use tup_commit::swap_rules;
+use std::marker::Brand;
+use std::sync::ledger::Blank;
+use tup_commit::uncounted::swap_rules;
 use tup_graph::Nodes;
 use tup_law_phases::sorted_may_be_swapped;
 use tup_partial::flags_are_of_rules;
@@ -185,7 +187,8 @@ fn swapped<S: Site>(
         readings: found.fresh,
         gone: found.gone,
     };
-    swap_rules(alloc, graph, site, &readings, rules.as_slice())?;
+    let blank = Blank::new(1);
+    swap_rules::<S, Brand>(alloc, graph, site, &readings, rules.as_slice(), blank)?;
     log.read = read;
     Ok(())
 }

@@ -24,8 +24,11 @@ ghost use Rattle.tup_phases.specs.Room.{FillsStore};
 
 use crate::bringing::brought;
 use std::alloc::Global;
+use std::marker::Brand;
+use std::sync::ledger::Blank;
 use std::thread::Threads;
-use tup_commit::{note_scan, scans_see};
+use tup_commit::scans_see;
+use tup_commit::uncounted::note_scan;
 use tup_partial::flags_are_of_rules;
 use tup_path::Bytes;
 use tup_promise::{Log, Stop};
@@ -265,6 +268,6 @@ fn scanned<W: Threads + Sync, S: Site>(
     // A law: while the graph is fresh, the store stands for its nodes.
     let _ = graph.nodes();
     let seen = scan_by(rt, alloc, site, &Still, workers)?;
-    note_scan(alloc, graph, site, &seen)?;
+    note_scan::<S, Brand>(alloc, graph, site, &seen, Blank::new(1))?;
     Ok(seen.config)
 }

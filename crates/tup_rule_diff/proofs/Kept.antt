@@ -20,8 +20,8 @@ use Rattle.tup_graph.specs.Swap.{WasAt, IsNew, IsFlaggedYet, ReadsNew}
 use Rattle.tup_graph.specs.Transactions.{flag_edits}
 use Rattle.tup_closure.specs.Readers.{AreRunsOfRules}
 use Rattle.tup_closure.proofs.Members.{number-decides}
-use Rattle.tup_scan_diff.proofs.Noting.{above_as}
-use Rattle.tup_scan_diff.proofs.Ordered.{in_front, none_in, front_or_behind}
+use Rattle.tup_closure.proofs.Stepping.{above_as}
+use Rattle.tup_closure.proofs.Ordered.{in_front, none_in, front_or_behind}
 use Rattle.tup_rule_diff.specs.Before.{AreNumbersBefore, IsNumberBefore}
 use Rattle.tup_rule_diff.specs.Edits.{AreSwapEdits, IsRunNow, IsToRun, clear_edits, led_by, less_edits, more_edits, own_so, reading_edits, run_so}
 use Rattle.tup_rule_diff.specs.Numbered.{numbered}
@@ -121,10 +121,10 @@ module _ (g : GraphState) (rules : List Rule) (befores : List (Option ℕ)) (are
         let before = before_of g rules befores i rule are (ap (λ (l : List Rule). slice_get l i) (sym same) ∙ here) in
         ap (λ (o : Option (Option ℕ)). unwrap_or (option_map is_none o) false) before.1 ∙ none_so g rule before.0 before.2 new
 
-    reads_to : (number : ℕ) → ReadsOneNew led befores number → ReadsNew g led number
+    pub reads_to : (number : ℕ) → ReadsOneNew led befores number → ReadsNew g led number
     reads_to number (i, rule, here, (new, (path, inside, asked))) = (i, rule, here, is_new_to i rule here new, (path, asked, (among-decides path rule.outputs).1 inside))
 
-    reads_from : (number : ℕ) → ReadsNew g led number → ReadsOneNew led befores number
+    pub reads_from : (number : ℕ) → ReadsNew g led number → ReadsOneNew led befores number
     reads_from number (i, rule, here, new, (path, asked, wrote)) = (i, rule, here, (is_new_from i rule here new, (path, (among-decides path rule.outputs).0 wrote, asked)))
 
     module _ (runs : AreRunsOfRules led) where

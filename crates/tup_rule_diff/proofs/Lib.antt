@@ -9,3 +9,4 @@ mod Owning
 mod Reading
 mod Kept
 mod Placing
+pub mod Led

@@ -9,7 +9,7 @@ use Rattle.std.specs.FinMap as finite
 use Rattle.std.specs.FinMap.{FinMap, IsAntisymmetric, find, is_sorted}
 use Rattle.std.specs.FinMap.Entries.{below_all}
 use Rattle.std.proofs.Math.Dec.{T}
-use Rattle.tup_scan_diff.proofs.Ordered.{in_front, behind_front, front_or_behind, none_in}
+use Rattle.tup_closure.proofs.Ordered.{in_front, behind_front, front_or_behind, none_in}
 
 t_true : (b : Bool) → T b → b ≡ true
 t_true true t = refl

@@ -7,7 +7,7 @@ use Rattle.std.proofs.lemmas.Option.{same_Some, slice_get_read, slice_get_within
 use Rattle.tup_rule.specs.declared.rule.Rule.{Rule}
 use Rattle.tup_graph.specs.Graph.{GraphState}
 use Rattle.tup_closure.specs.Grows.{Grows}
-use Rattle.tup_scan_diff.proofs.Ordered.{none_in}
+use Rattle.tup_closure.proofs.Ordered.{none_in}
 use Rattle.tup_rule_diff.specs.Running.{ReadsIfNew, ReadsOneNew}
 
 -- a list behind a list

@@ -38,7 +38,7 @@ use Rattle.tup_graph.proofs.Bare.{level_of}
 use Rattle.tup_graph.proofs.Needed.{needed_read}
 use Rattle.tup_graph.proofs.Turns.{turns_read, taken_so, taken_both}
 use Rattle.tup_scan_diff.proofs.Editing.{found_entry}
-use Rattle.tup_scan_diff.proofs.Ordered.{in_front, behind_front}
+use Rattle.tup_closure.proofs.Ordered.{in_front, behind_front}
 use Rattle.tup_scan_diff.proofs.Paths.{last_item}
 use Rattle.tup_rule_diff.specs.Edits.{AreSwapEdits, unflag, uncreate, unown, unrun, clear_edits, unread, read_so, reading_edits, less_edits, rule_less, more_edits, rule_more, place_behind, run_so, own_so, IsToRun}
 use Rattle.tup_rule_diff.specs.Order.{AreByFolder}

@@ -15,6 +15,7 @@ use Rattle.tup_graph.specs.Edits.{edited_by}
 use Rattle.tup_graph.specs.Graph.{GraphState, empty_graph}
 use Rattle.tup_graph.specs.Swap.{WasAt, owned_now, IsFlaggedYet, ReadsNew}
 use Rattle.tup_graph.specs.Transactions.{flag_edits}
+use Rattle.tup_closure.specs.Steps.{HasStepped, HasSteppedAtMost}
 
 -- ---- nothing is flagged, to be read, owned or recorded of a run
 
@@ -98,6 +99,19 @@ IsRunNow g rules number run =
 -- the graph of rules and records of runs alone
 abbrev pub led_by : List Rule → List (ℕ × RunRecord) → GraphState
 led_by rules runs = edited_by empty_graph (more_edits [] rules ++ map run_so runs)
+
+-- a graph of these rules, each with the record that it keeps
+pub record IsLed (g : GraphState) (rules : List Rule) (led : GraphState) : Type 0 where
+  pub rules_are : led.rules ≡ rules
+  pub runs_are : (number : ℕ) (run : RunRecord) → (finite.get led.runs number ≡ Some run) ↔ IsRunNow g rules number run
+
+-- the steps of a swap: those of a walk by the records that the rules keep, from the rules that read an output of a new one
+abbrev pub SwapStepped : GraphState → List Rule → ℕ → ℕ → Type 0
+SwapStepped g rules before after = (led : GraphState) × IsLed g rules led × HasStepped led (ReadsNew g led) before after
+
+-- at most the steps of a swap
+abbrev pub SwapSteppedAtMost : GraphState → List Rule → ℕ → ℕ → Type 0
+SwapSteppedAtMost g rules before after = (led : GraphState) → IsLed g rules led → HasSteppedAtMost led (ReadsNew g led) before after
 
 -- a rule that is to be run: as it is itself, or by what is recorded of reads
 abbrev pub IsToRun : GraphState → GraphState → ℕ → Type 0

@@ -1,8 +1,10 @@
 //! Which rules are to be run after a swap.
-ghost use Rattle.std.specs.Prelude.{◌≡◌, ◌↔◌, ◌++◌, ℕ, Contains, IfOk, IfErr, OnOk};
+ghost use Rattle.std.specs.Prelude.{◌≡◌, ◌↔◌, ◌++◌, ℕ, Contains, IfOk, IfErr, OnErr, OnOk};
 ghost use Rattle.tup_graph.specs.Above.{HasAsked};
+ghost use Rattle.tup_graph.specs.Swap.{ReadsNew};
 ghost use Rattle.tup_closure.specs.Grows.{Grows};
 ghost use Rattle.tup_closure.specs.Readers.{AreRunsOfRules, HasAskedOneOf};
+ghost use Rattle.tup_closure.specs.Steps.{HasStepped, HasSteppedAtMost};
 ghost use Rattle.tup_rule_diff.specs.Before.{AreNumbersBefore};
 ghost use Rattle.tup_rule_diff.specs.Edits.{IsToRun, led_by};
 ghost use Rattle.tup_rule_diff.specs.Numbered.{numbered};
@@ -11,7 +13,8 @@ ghost use Rattle.tup_rule_diff.specs.Running.{ReadsIfNew, ReadsOneNew, flag_at, 
 use crate::before::number_of;
 use crate::putting::{push_more, push_runs};
 use std::alloc::Global;
-use tup_closure::above;
+use std::sync::ledger::Ledger;
+use tup_closure::{Steps, above};
 use tup_graph::{Edits, GraphFault, Nodes};
 use tup_path::{Items, Path};
 use tup_readers::Indexed;
@@ -71,41 +74,51 @@ fn led(alloc: Global, rules: &[Rule], runs: &[(u32, RunRecord)]) -> Result<Index
 }
 
 /// The rules that are to be run, where these are the rules now, and these the records that they keep.
-pub(crate) fn flags_now(
+pub(crate) fn flags_now<L: Ledger>(
     alloc: Global,
     nodes: &Nodes,
     rules: &[Rule],
     runs: &[(u32, RunRecord)],
     befores: &[Option<u32>],
+    steps: &mut Steps<L>,
 ) -> Result<Items<u32>, GraphFault>
     requires befores { AreNumbersBefore nodes.now (led_by rules.now runs.now).rules befores.now }
     requires runs { AreRunsOfRules (led_by rules.now runs.now) }
     ensures flags { IfOk result (λ flags. (number : ℕ)
         → Contains flags number ↔ IsToRun nodes.now (led_by rules.now runs.now) number) }
+    ensures steps { OnOk result (HasStepped (led_by rules.now runs.now)
+        (ReadsNew nodes.now (led_by rules.now runs.now)) steps.old steps.new) }
+    ensures fewer { OnErr result (HasSteppedAtMost (led_by rules.now runs.now)
+        (ReadsNew nodes.now (led_by rules.now runs.now)) steps.old steps.new) }
     ensures memory { IfErr result (λ fault. fault ≡ GraphFault.Memory) }
 {
     let led = led(alloc, rules, runs)?;
-    let flags = to_run(alloc, nodes, &led, befores);
+    let flags = to_run(alloc, nodes, &led, befores, steps);
     drop(led);
     flags
 }
 
 /// The rules that are to be run: those whose records ask an output of a new one, and all that recorded reads lead to from
 /// them; new ones, and those that were flagged.
-fn to_run(
+fn to_run<L: Ledger>(
     alloc: Global,
     nodes: &Nodes,
     led: &Indexed,
     befores: &[Option<u32>],
+    steps: &mut Steps<L>,
 ) -> Result<Items<u32>, GraphFault>
     requires befores { AreNumbersBefore nodes.now led.now.rules befores.now }
     requires runs { AreRunsOfRules led.now }
     ensures flags { IfOk result (λ flags. (number : ℕ)
         → Contains flags number ↔ IsToRun nodes.now led.now number) }
+    ensures steps { OnOk result
+        (HasStepped led.now (ReadsNew nodes.now led.now) steps.old steps.new) }
+    ensures fewer { OnErr result
+        (HasSteppedAtMost led.now (ReadsNew nodes.now led.now) steps.old steps.new) }
     ensures memory { IfErr result (λ fault. fault ≡ GraphFault.Memory) }
 {
     let roots = readers_of_new(alloc, led, led.nodes().rules(), befores)?;
-    let mut flags = above(alloc, led, roots.as_slice())?;
+    let mut flags = above(alloc, led, roots.as_slice(), steps)?;
     push_flagged(&mut flags, nodes, befores)?;
     Ok(flags)
 }

@@ -1,8 +1,8 @@
 //! A swap of rules.
-ghost use Rattle.std.specs.Prelude.{◌≡◌, ◌++◌, [], map, IfOk, IfErr, OnOk};
+ghost use Rattle.std.specs.Prelude.{◌≡◌, ◌++◌, [], map, IfOk, IfErr, OnErr, OnOk};
 ghost use Rattle.std.specs.FinMap as finite;
 ghost use Rattle.tup_graph.specs.Transactions.{flag_edits};
-ghost use Rattle.tup_rule_diff.specs.Edits.{AreSwapEdits, clear_edits, less_edits, more_edits, own_so, reading_edits, run_so};
+ghost use Rattle.tup_rule_diff.specs.Edits.{AreSwapEdits, SwapStepped, SwapSteppedAtMost, clear_edits, less_edits, more_edits, own_so, reading_edits, run_so};
 
 use crate::before::numbers_before;
 use crate::clearing::{push_cleared, push_less, push_unread};
@@ -10,6 +10,8 @@ use crate::owners::owned_now;
 use crate::putting::{push_flags, push_fresh, push_more, push_owned, push_runs};
 use crate::running::{flags_now, runs_now};
 use std::alloc::Global;
+use std::sync::ledger::Ledger;
+use tup_closure::Steps;
 use tup_graph::{Edits, GraphFault, Nodes, Owned};
 use tup_path::{ByPath, Items, Path, Paths};
 use tup_record::RunRecord;
@@ -28,19 +30,32 @@ pub struct Refreshed {
 /// first rule that has it, and other owned paths have no maker; states stay, and what is newly owned was never written.
 ///
 /// What was there is taken away, and what is there now is put in: of each key the last edit counts.
-pub fn swap_rules(
+///
+/// By the records that the rules keep, from those that ask an output of a new rule, it takes the steps of `above`; after a
+/// refusal it has taken no more.
+pub fn swap_rules<L: Ledger>(
     alloc: Global,
     nodes: &Nodes,
     fresh: &Refreshed,
     rules: &[Rule],
+    steps: &mut Steps<L>,
 ) -> Result<Edits, GraphFault>
     ensures edits { IfOk result
         (AreSwapEdits nodes.now fresh.now.readings fresh.now.gone rules.now) }
+    ensures steps { OnOk result (SwapStepped nodes.now rules.now steps.old steps.new) }
+    ensures fewer { OnErr result (SwapSteppedAtMost nodes.now rules.now steps.old steps.new) }
     ensures memory { IfErr result (λ fault. fault ≡ GraphFault.Memory) }
 {
     let befores = numbers_before(alloc, nodes, rules)?;
     let runs = runs_now(alloc, nodes, befores.as_slice())?;
-    let flags = flags_now(alloc, nodes, rules, runs.as_slice(), befores.as_slice())?;
+    let flags = flags_now(
+        alloc,
+        nodes,
+        rules,
+        runs.as_slice(),
+        befores.as_slice(),
+        steps,
+    )?;
     let owned = owned_now(alloc, nodes, rules)?;
     let mut edits = Items::new(alloc);
     push_away(&mut edits, nodes, fresh)?;

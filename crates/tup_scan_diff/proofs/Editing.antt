@@ -27,7 +27,8 @@ use Rattle.tup_graph.specs.Graph.{GraphState, is_created, is_flagged}
 use Rattle.tup_graph.specs.Transactions.{seen_so, flag_edits}
 use Rattle.tup_scan_diff.specs.Edits.{is_same, is_news, is_gone, not_seen, news_edits, gone_edits, seen_edits, to_read, create_edits, modify_edits}
 use Rattle.tup_scan_diff.specs.Present.{seeing}
-use Rattle.tup_scan_diff.proofs.Ordered.{none_in, in_front, behind_front, front_or_behind}
+use Rattle.tup_closure.proofs.Reading.{in_filter}
+use Rattle.tup_closure.proofs.Ordered.{none_in, in_front, behind_front, front_or_behind}
 
 -- ---- entries of a map, by their keys
 
@@ -89,17 +90,6 @@ module _ {X : Type 0} where
 -- ---- filtered lists
 
 module _ {X : Type 0} (p : X → Bool) where
-  pub in_filter : (xs : List X) (x : X) → Contains xs x → p x ≡ true → Contains (filter p xs) x
-  in_filter [] x h passes = absurd (none_in x h)
-  in_filter (first ∷ xs) x h passes = elim (front_or_behind first x xs h) [
-    | inl same ↦ subst (λ (b : Bool). Contains (cond b (first ∷ filter p xs) (filter p xs)) x) (sym (ap p same ∙ passes)) (subst (Contains (first ∷ filter p xs)) same (in_front first (filter p xs)))
-    | inr later ↦ either (p first) (in_filter xs x later passes)
-  ]
-    where
-      either : (b : Bool) → Contains (filter p xs) x → Contains (cond b (first ∷ filter p xs) (filter p xs)) x
-      either true h = behind_front first x (filter p xs) h
-      either false h = h
-
   pub filter_in : (xs : List X) (x : X) → Contains (filter p xs) x → Contains xs x × (p x ≡ true)
   filter_in [] x h = absurd (none_in x h)
   filter_in (first ∷ xs) x h = either (p first) refl (filter_in xs x) h

@@ -2,7 +2,6 @@ pub mod Sets
 pub mod Stamped
 pub mod Paths
 pub mod Indexed
-pub mod Ordered
 pub mod Named
 pub mod Answered
 pub mod Staled

@@ -28,8 +28,9 @@ use Rattle.tup_closure.proofs.Members.{contained, number-decides}
 use Rattle.tup_scan_diff.specs.Edits.{gone_edits, is_gone, is_news, is_same, news_edits, not_seen, seen_edits}
 use Rattle.tup_scan_diff.specs.Present.{seeing}
 use Rattle.tup_scan_diff.specs.Touched.{FindsRoots, IsScanRoot, IsUserOf, SeesOtherwise, UsesOneOf, file_of, record_of}
-use Rattle.tup_scan_diff.proofs.Editing.{entry_found, in_filter, same_is}
-use Rattle.tup_scan_diff.proofs.Ordered.{in_front, behind_front, front_or_behind}
+use Rattle.tup_closure.proofs.Reading.{in_filter}
+use Rattle.tup_scan_diff.proofs.Editing.{entry_found, same_is}
+use Rattle.tup_closure.proofs.Ordered.{in_front, behind_front, front_or_behind}
 
 -- ---- one after another
 

@@ -24,7 +24,7 @@ use Rattle.tup_scan_diff.specs.declared.made.Made.{Made}
 use Rattle.tup_scan_diff.specs.declared.present.Present.{Present}
 use Rattle.tup_scan_diff.proofs.Editing.{entry_found, found_entry}
 use Rattle.tup_scan_diff.proofs.Named.{name-decides}
-use Rattle.tup_scan_diff.proofs.Ordered.{none_in}
+use Rattle.tup_closure.proofs.Ordered.{none_in}
 use Rattle.tup_scan_diff.proofs.Sets.{set_as, set_stays}
 
 -- ---- of some readings

@@ -20,7 +20,7 @@ use Rattle.tup_closure.specs.Lists.{list_of}
 use Rattle.tup_closure.proofs.Asked.{taken}
 use Rattle.tup_closure.proofs.Members.{contained, in_empty, in_set}
 use Rattle.tup_scan_diff.specs.Told.{AreNames}
-use Rattle.tup_scan_diff.proofs.Ordered.{same_members}
+use Rattle.tup_closure.proofs.Ordered.{same_members}
 use Rattle.tup_scan_diff.proofs.Paths.{below_its_folder, none_below_top, one_folder, one_name}
 use Rattle.tup_scan_diff.proofs.Sets.{set_on, set_as}
 use Rattle.tup_scan_diff.specs.Names.{IsIn, IsDraftedIn, IsMadeIn}

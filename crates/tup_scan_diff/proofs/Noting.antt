@@ -27,23 +27,12 @@ use Rattle.tup_graph.proofs.Leading.{edits_read}
 use Rattle.tup_graph.proofs.Needed.{needed_read}
 use Rattle.tup_closure.specs.Readers.{AreRunsOfRules}
 use Rattle.tup_closure.proofs.Members.{in_list, listed, number-decides}
+use Rattle.tup_closure.proofs.Stepping.{above_as}
 use Rattle.tup_closure.proofs.Stored.{stored}
 use Rattle.tup_scan_diff.specs.Edits.{AreScanEdits, create_edits, modify_edits, is_gone, is_news, not_seen, seen_edits, to_read}
 use Rattle.tup_scan_diff.specs.Present.{seeing}
 use Rattle.tup_scan_diff.specs.Touched.{IsScanRoot}
 use Rattle.tup_scan_diff.proofs.Editing.{scan_leaves, missing_put, created_after, flags_after, filter_in}
-
--- ---- above the same roots by the same records
-
-pub above_as : (a b : GraphState) (R S : ℕ → Type 0) → a.rules ≡ b.rules → a.runs ≡ b.runs → ((n : ℕ) → R n → S n) → (reads n : ℕ) → AboveOver reads a R n → AboveOver reads b S n
-above_as a b R S rules runs roots zero n root = roots n root
-above_as a b R S rules runs roots (suc reads) n (before, maker, over, here, (path, (run, given, ran, asked), wrote)) = (
-  before,
-  maker,
-  above_as a b R S rules runs roots reads before over,
-  subst (λ (l : List Rule). slice_get l before ≡ Some maker) rules here,
-  (path, (run, given, subst (λ (m : finite.FinMap nat_cmp RunRecord). finite.get m n ≡ Some run) runs ran, asked), wrote),
-)
 
 or_cases : (a b : Bool) → (a || b) ≡ true → (a ≡ true) ⊎ (b ≡ true)
 or_cases true b e = inl refl

@@ -23,7 +23,7 @@ use Rattle.tup_graph.specs.Transactions.{seen_so}
 use Rattle.tup_scan_diff.specs.Edits.{is_same, is_news, is_gone, not_seen, news_edits, seen_edits}
 use Rattle.tup_scan_diff.specs.Present.{or_else, over}
 use Rattle.tup_scan_diff.proofs.Editing.{above_head, apart, found_entry, left_of, none_pass, right_of, t_true}
-use Rattle.tup_scan_diff.proofs.Ordered.{in_front}
+use Rattle.tup_closure.proofs.Ordered.{in_front}
 use Rattle.tup_scan_diff.proofs.Stamped.{or_last, find_push}
 
 abbrev Entry : Type 0

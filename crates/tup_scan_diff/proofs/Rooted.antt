@@ -15,9 +15,9 @@ use Rattle.tup_record.specs.declared.run.RunRecord.{RunRecord}
 use Rattle.tup_graph.specs.Above.{IsAbove}
 use Rattle.tup_graph.specs.Graph.{GraphState}
 use Rattle.tup_graph.specs.Scan.{IsTouched}
+use Rattle.tup_closure.proofs.Stepping.{above_as}
 use Rattle.tup_scan_diff.specs.Present.{seeing}
 use Rattle.tup_scan_diff.specs.Touched.{AsksOther, WroteOther, IsScanRoot}
-use Rattle.tup_scan_diff.proofs.Noting.{above_as}
 
 module _ (g : GraphState) (rule : Rule) (asks : List (Names × Option Stamp)) where
   pub other_here : (i : ℕ) (ask d : Names × Option Stamp) → i < length asks → ask ≡ get_or asks i d → (writes rule ask.0 ≡ false) × (ask.1 ≢ finite.get g.seen ask.0) → Decides true (AsksOther g rule asks)

@@ -57,6 +57,10 @@ create_edits g dirs = map to_read (filter (λ dir. not (is_created g dir)) dirs)
 abbrev pub modify_edits : GraphState → List ℕ → List Edit
 modify_edits g numbers = flag_edits (filter (λ number. not (is_flagged g number)) numbers)
 
+-- a rule with which a scan that found these files begins: it is flagged, or its run is touched
+abbrev pub BeginsScan : GraphState → List (Names × Stamp) → ℕ → Type 0
+BeginsScan g files = IsScanRoot (seeing g (finite.from_entries files))
+
 -- all of it: of each key one edit, and none that changes nothing
 pub record AreScanEdits (g : GraphState) (files : List (Names × Stamp)) (config : Option Content) (edits : List Edit) : Type 0 where
   pub dirs : List Names

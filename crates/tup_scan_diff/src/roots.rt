@@ -1,5 +1,5 @@
 //! The rules to begin with after a scan, and those above them.
-ghost use Rattle.std.specs.Prelude.{◌≡◌, ◌↔◌, ℕ, true, Contains, IfErr, IfOk, OnOk};
+ghost use Rattle.std.specs.Prelude.{◌≡◌, ◌↔◌, ℕ, true, Contains, IfErr, IfOk, OnErr, OnOk};
 ghost use Rattle.std.specs.List.Sorted.{IsStrictlySortedBy};
 ghost use Rattle.std.specs.Option.{option_copied};
 ghost use Rattle.std.specs.Ordering.{nat_cmp};
@@ -7,6 +7,7 @@ ghost use Rattle.tup_graph.specs.Above.{IsAbove};
 ghost use Rattle.tup_graph.specs.Graph.{is_flagged};
 ghost use Rattle.tup_closure.specs.Grows.{Grows};
 ghost use Rattle.tup_closure.specs.Readers.{AreRunsOfRules};
+ghost use Rattle.tup_closure.specs.Steps.{HasStepped, HasSteppedAtMost};
 ghost use Rattle.tup_scan_diff.specs.Edits.{seen_edits};
 ghost use Rattle.tup_scan_diff.specs.Present.{graph_of, stamps_in};
 ghost use Rattle.tup_scan_diff.specs.Touched.{FindsRoots, IsScanRoot, IsUserOf, SeesOtherwise, UsesOneOf};
@@ -16,7 +17,8 @@ ghost use Rattle.tup_path.specs.Name.{Names};
 use crate::present::Present;
 use std::alloc::Global;
 use std::collections::BTreeSet;
-use tup_closure::above;
+use std::sync::ledger::Ledger;
+use tup_closure::{Steps, above};
 use tup_graph::{Edit, GraphFault};
 use tup_path::{Items, Path};
 use tup_readers::Indexed;
@@ -25,11 +27,12 @@ use tup_record::Record;
 impl Present<'_> {
     /// The rules that are to be run, in ascending order: those that are flagged or touched, and all that recorded reads
     /// lead to from them. The edits are those by which files are seen as they stand now.
-    pub(crate) fn to_run(
+    pub(crate) fn to_run<L: Ledger>(
         &self,
         alloc: Global,
         graph: &Indexed,
         edits: &[Edit],
+        steps: &mut Steps<L>,
     ) -> Result<Items<u32>, GraphFault>
         requires same { graph.now ≡ self.now.nodes.now }
         requires runs { AreRunsOfRules graph.now }
@@ -37,10 +40,14 @@ impl Present<'_> {
         ensures above { IfOk result (λ numbers. (number : ℕ) → Contains numbers number
             ↔ IsAbove (graph_of self.now) (IsScanRoot (graph_of self.now)) number) }
         ensures ascending { IfOk result (λ numbers. IsStrictlySortedBy nat_cmp numbers) }
+        ensures steps { OnOk result
+            (HasStepped graph.now (IsScanRoot (graph_of self.now)) steps.old steps.new) }
+        ensures fewer { OnErr result
+            (HasSteppedAtMost graph.now (IsScanRoot (graph_of self.now)) steps.old steps.new) }
         ensures memory { IfErr result (λ fault. fault ≡ GraphFault.Memory) }
     {
         let roots = self.roots(alloc, graph, edits)?;
-        above(alloc, graph, roots.as_slice())
+        above(alloc, graph, roots.as_slice(), steps)
     }
 
     /// The rules that are flagged or touched. It looks at those that are flagged, at those that may have been touched

@@ -1,11 +1,14 @@
 //! What a scan changes.
-ghost use Rattle.std.specs.Prelude.{◌≡◌, IfOk, IfErr};
+ghost use Rattle.std.specs.Prelude.{◌≡◌, IfOk, IfErr, OnErr, OnOk};
 ghost use Rattle.tup_closure.specs.Readers.{AreRunsOfRules};
-ghost use Rattle.tup_scan_diff.specs.Edits.{AreScanEdits};
+ghost use Rattle.tup_closure.specs.Steps.{HasStepped, HasSteppedAtMost};
+ghost use Rattle.tup_scan_diff.specs.Edits.{AreScanEdits, BeginsScan};
 
 use crate::present::Present;
 use crate::stamps::sees_all;
 use std::alloc::Global;
+use std::sync::ledger::Ledger;
+use tup_closure::Steps;
 use tup_graph::{Edits, GraphFault};
 use tup_readers::Indexed;
 use tup_scan::Seen;
@@ -30,15 +33,26 @@ pub fn asks_for_users(graph: &Indexed, seen: &Seen) -> bool {
 /// are flagged or whose records may not tell what was seen before, and at those that use a path which has another stamp
 /// now: a rule that is none of these isn't looked at. The outputs of the readings are put into a map once, so that what a
 /// reading asked about a path takes one lookup.
-pub fn note_scan(alloc: Global, graph: &Indexed, seen: &Seen) -> Result<Edits, GraphFault>
+///
+/// From the rules that are flagged or touched it takes the steps of `above`; after a refusal it has taken no more.
+pub fn note_scan<L: Ledger>(
+    alloc: Global,
+    graph: &Indexed,
+    seen: &Seen,
+    steps: &mut Steps<L>,
+) -> Result<Edits, GraphFault>
     requires runs { AreRunsOfRules graph.now }
     ensures edits { IfOk result (AreScanEdits graph.now seen.now.files seen.now.config) }
+    ensures steps { OnOk result
+        (HasStepped graph.now (BeginsScan graph.now seen.now.files) steps.old steps.new) }
+    ensures fewer { OnErr result
+        (HasSteppedAtMost graph.now (BeginsScan graph.now seen.now.files) steps.old steps.new) }
     ensures memory { IfErr result (λ fault. fault ≡ GraphFault.Memory) }
 {
     let present = Present::new(alloc, graph.nodes(), seen)?;
     let dirs = present.stale(alloc)?;
     let mut edits = present.seen_edits(alloc)?;
-    let numbers = present.to_run(alloc, graph, edits.as_slice())?;
+    let numbers = present.to_run(alloc, graph, edits.as_slice(), steps)?;
     present.push_marks(&mut edits, &dirs, numbers.as_slice())?;
     Ok(edits)
 }

@@ -16,13 +16,16 @@ use crate::site::{files_of, site_with};
 use crate::swap::{are_by_folder, is_one, news};
 use std::alloc::{AllocError, Global};
 use std::fmt::Display;
-use tup_commit::{note_scan, swap_rules};
+use std::marker::Brand;
+use std::sync::ledger::Blank;
+use tup_commit::uncounted::{note_scan, swap_rules};
 use tup_graph::GraphFault;
 use tup_ledger::{Begun, begin as begin_project, give_up, open, own, owned_paths};
 use tup_path::{Path, Paths};
 use tup_refresh::refresh;
 use tup_rows::{Answers, RowFault, Words, set};
 use tup_rule::Question;
+use tup_scan::Seen;
 use tup_site::MemSite;
 use tup_stored_graph::Graph;
 
@@ -316,12 +319,19 @@ fn make_on(
         "doom" => graph.doom(alloc, site, &paths(alloc, said, said.len())),
         "forget" => graph.forget(alloc, site, &paths(alloc, said, said.len())),
         "flag" => flag(alloc, said, graph, site),
-        "scan" => note_scan(alloc, graph, site, &seen(alloc, said, said.len() / 2)),
+        "scan" => note(alloc, graph, site, &seen(alloc, said, said.len() / 2)),
         "swap" => swap(alloc, said, graph, site),
         "own" => own(alloc, graph, site, &paths(alloc, said, said.len())),
         "give_up" => give_up_paths(alloc, said, graph, site),
         _ => unmade(said, RowFault::NoSuchCall),
     }
+}
+
+/// Takes note of a scan.
+fn note(alloc: Global, graph: &mut Graph, site: &mut MemSite, seen: &Seen) -> Result<(), GraphFault>
+    requires { Stands graph.old site.old }
+{
+    note_scan::<MemSite, Brand>(alloc, graph, site, seen, Blank::new(1))
 }
 
 /// Begins the run of a rule.
@@ -388,7 +398,14 @@ fn swap(
     if !is_one(&fresh) || !are_by_folder(rules.as_slice()) {
         return unmade(said, RowFault::OtherKind);
     }
-    let swapped = swap_rules(alloc, graph, site, &fresh, rules.as_slice());
+    let swapped = swap_rules::<MemSite, Brand>(
+        alloc,
+        graph,
+        site,
+        &fresh,
+        rules.as_slice(),
+        Blank::new(1),
+    );
     drop(fresh);
     drop(rules);
     swapped

@@ -4,7 +4,9 @@ use Rattle.tup_graph.specs.Graph.{GraphState}
 use Rattle.tup_graph.specs.Opening.{IsGraphOf}
 use Rattle.tup_table.specs.Table.{entries_in}
 use Rattle.tup_graph.specs.Scan.{IsScanned}
-use Rattle.tup_scan_diff.specs.Edits.{AreScanEdits}
+use Rattle.tup_closure.specs.Steps.{HasStepped, HasSteppedAtMost}
+use Rattle.tup_closure.proofs.Stepping.{at_most, if_err, if_ok}
+use Rattle.tup_scan_diff.specs.Edits.{AreScanEdits, BeginsScan}
 use Rattle.tup_stored_graph.proofs.Fresh.{ok_is_fresh}
 use Rattle.tup_commit.proofs.Noting.{notes, stands_so}
 use Rattle.tup_commit.proofs.Crashes.{by_commit, by_nothing}
@@ -56,3 +58,17 @@ returns-in_err-edits-clause-crash g c = λ tells.
     let old = c.args.graph.now in
     by_nothing g.S.Site.world g.S.Site.moment g.S.Site.left_since old.table old.nodes (IsScanned old.nodes c.args.seen.now.files c.args.seen.now.config) c.args.site.now (c.requires.stands tells)
     (subst (λ (nodes : GraphState). IsGraphOf (entries_in old.table) nodes) c.indexed.ensures.value (c.indexed.ensures.graph c.requires.fresh))
+
+pub returns-in_err-edits-clause-fewer : goal.returns-in_err-edits-clause-fewer
+returns-in_err-edits-clause-fewer g c =
+    if_err c.from_residual.result (subst (λ (nodes : GraphState). HasSteppedAtMost nodes (BeginsScan nodes c.args.seen.now.files) c.args.steps.now c.note_scan.new.steps) c.indexed.ensures.value c.in_err-edits.ensures.fewer)
+
+pub returns-clause-steps : goal.returns-clause-steps
+returns-clause-steps g c =
+    if_ok c.commit_edits.result
+    (subst (λ (nodes : GraphState). HasStepped nodes (BeginsScan nodes c.args.seen.now.files) c.args.steps.now c.note_scan.new.steps) c.indexed.ensures.value c.in_ok-edits.ensures.steps)
+
+pub returns-clause-fewer : goal.returns-clause-fewer
+returns-clause-fewer g c =
+    if_err c.commit_edits.result
+    (at_most (subst (λ (nodes : GraphState). HasStepped nodes (BeginsScan nodes c.args.seen.now.files) c.args.steps.now c.note_scan.new.steps) c.indexed.ensures.value c.in_ok-edits.ensures.steps))

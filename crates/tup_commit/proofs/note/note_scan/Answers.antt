@@ -1,6 +1,9 @@
 use Rattle.std.proofs.Common.{IsTrue, sym, subst}
-use Rattle.std.specs.Result.{OnOk}
+use Rattle.std.specs.Result.{OnErr, OnOk}
 use Rattle.tup_graph.specs.Scan.{IsScanned}
+use Rattle.tup_closure.specs.Steps.{HasStepped, HasSteppedAtMost}
+use Rattle.tup_closure.proofs.Stepping.{if_err, none_stepped}
+use Rattle.tup_scan_diff.specs.Edits.{BeginsScan}
 use Rattle.tup_stored_graph.specs.Held.{Held, StandsFor, is_fresh}
 use Rattle.tup_commit.specs.Crash.{LeavesScanned}
 use Rattle.tup_commit.specs.Noted.{NotesScan}
@@ -36,3 +39,15 @@ returns-in_err-know_users-clause-crash g c = λ tells.
     let old = c.args.graph.now in
     by_nothing g.S.Site.world g.S.Site.moment g.S.Site.left_since old.table old.nodes (IsScanned old.nodes c.args.seen.now.files c.args.seen.now.config) c.args.site.now (c.requires.stands tells)
     (c.know_users.ensures.sound c.requires.fresh)
+
+pub returns-in_err-know_users-clause-fewer : goal.returns-in_err-know_users-clause-fewer
+returns-in_err-know_users-clause-fewer g c =
+    if_err c.from_residual.result (none_stepped c.args.graph.now.nodes (BeginsScan c.args.graph.now.nodes c.args.seen.now.files) c.args.steps.now)
+
+pub returns-clause-steps : goal.returns-clause-steps
+returns-clause-steps g c =
+    subst (λ (held : Held). OnOk c.commit_scan.result (HasStepped held.nodes (BeginsScan held.nodes c.args.seen.now.files) c.args.steps.now c.commit_scan.new.steps)) c.know_users.ensures.same c.commit_scan.ensures.steps
+
+pub returns-clause-fewer : goal.returns-clause-fewer
+returns-clause-fewer g c =
+    subst (λ (held : Held). OnErr c.commit_scan.result (HasSteppedAtMost held.nodes (BeginsScan held.nodes c.args.seen.now.files) c.args.steps.now c.commit_scan.new.steps)) c.know_users.ensures.same c.commit_scan.ensures.fewer

@@ -4,7 +4,9 @@ use Rattle.tup_graph.specs.Graph.{GraphState}
 use Rattle.tup_graph.specs.Opening.{IsGraphOf}
 use Rattle.tup_table.specs.Table.{entries_in}
 use Rattle.tup_graph.specs.Swap.{IsSwapped}
-use Rattle.tup_rule_diff.specs.Edits.{AreSwapEdits}
+use Rattle.tup_closure.proofs.Stepping.{if_err, if_ok}
+use Rattle.tup_rule_diff.specs.Edits.{AreSwapEdits, SwapStepped, SwapSteppedAtMost}
+use Rattle.tup_rule_diff.proofs.Led.{swap_no_more}
 use Rattle.tup_stored_graph.proofs.Fresh.{ok_is_fresh}
 use Rattle.tup_commit.proofs.Noting.{notes, stands_so}
 use Rattle.tup_commit.proofs.Crashes.{by_commit, by_nothing}
@@ -51,3 +53,17 @@ returns-in_err-edits-clause-crash g c = λ tells.
     let old = c.args.graph.now in
     by_nothing g.S.Site.world g.S.Site.moment g.S.Site.left_since old.table old.nodes (IsSwapped old.nodes c.args.fresh.now.readings c.args.fresh.now.gone c.args.rules.now) c.args.site.now (c.requires.stands tells)
     (subst (λ (nodes : GraphState). IsGraphOf (entries_in old.table) nodes) c.nodes.ensures.value (c.nodes.ensures.graph c.requires.fresh))
+
+pub returns-in_err-edits-clause-fewer : goal.returns-in_err-edits-clause-fewer
+returns-in_err-edits-clause-fewer g c =
+    if_err c.from_residual.result (subst (λ (nodes : GraphState). SwapSteppedAtMost nodes c.args.rules.now c.args.steps.now c.swap_rules.new.steps) c.nodes.ensures.value c.in_err-edits.ensures.fewer)
+
+pub returns-clause-steps : goal.returns-clause-steps
+returns-clause-steps g c =
+    if_ok c.commit_edits.result (subst (λ (nodes : GraphState). SwapStepped nodes c.args.rules.now c.args.steps.now c.swap_rules.new.steps) c.nodes.ensures.value c.in_ok-edits.ensures.steps)
+
+pub returns-clause-fewer : goal.returns-clause-fewer
+returns-clause-fewer g c =
+    if_err c.commit_edits.result
+    (swap_no_more c.args.graph.now.nodes c.args.rules.now c.args.steps.now c.swap_rules.new.steps
+    (subst (λ (nodes : GraphState). SwapStepped nodes c.args.rules.now c.args.steps.now c.swap_rules.new.steps) c.nodes.ensures.value c.in_ok-edits.ensures.steps))

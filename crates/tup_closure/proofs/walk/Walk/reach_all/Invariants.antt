@@ -1,7 +1,0 @@
-use Rattle.std.proofs.Common.{take}
-use Rattle.std.specs.Prelude.{Contains}
-use Rattle.tup_closure.specs.Walk.{GoesTo}
-use Rattle.tup_closure.proofs.walk.Walk.reach_all.Given as goal
-
-abbrev pub invariant-loop-number : goal.invariant-loop-number
-invariant-loop-number l = GoesTo (Contains (take l.number-index l.numbers)) l.fn.self l.self
