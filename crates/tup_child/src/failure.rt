@@ -12,18 +12,31 @@ pub enum Failure {
     /// A word isn't what it should be, or what stands between the program and the files failed.
     #[error("{0}")]
     Because(&'static str),
-    /// The system refused a call.
+    /// The system refused a call on a file: what was asked, the place, and the system's words.
+    #[error("{0}")]
+    Failed(tup_disk::Failure),
+    /// The system refused another call.
     #[error("{0}")]
     System(io::Error),
 }
 
 impl From<AllocError> for Failure {
+    ghost use Rattle.std.specs.Prelude.{◌≡◌};
+    ghost use Rattle.tup_child.specs.declared.failure.Failure.TheVariants.{Memory};
+
+    ghost from_gives = { λ _ failure. failure ≡ Memory };
+
     fn from(_: AllocError) -> Failure {
         Failure::Memory
     }
 }
 
 impl<T: Drop> From<AllocFailed<T>> for Failure {
+    ghost use Rattle.std.specs.Prelude.{◌≡◌};
+    ghost use Rattle.tup_child.specs.declared.failure.Failure.TheVariants.{Memory};
+
+    ghost from_gives = { λ _ failure. failure ≡ Memory };
+
     fn from(_: AllocFailed<T>) -> Failure {
         Failure::Memory
     }

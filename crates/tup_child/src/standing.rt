@@ -1,8 +1,12 @@
 //! What stands at a place.
-use crate::failure::Failure;
-use std::fs;
-use std::io::ErrorKind;
+ghost use Rattle.std.specs.Prelude.{IfErr};
+ghost use Rattle.std.specs.IoError.{error_kind};
+ghost use Rattle.tup_disk.specs.Told.{SaysAbsence};
+
+use std::fs::Metadata;
 use std::rt::Files;
+use std::{fs, io};
+use tup_disk::is_absence;
 
 /// What stands at a place.
 #[derive(Clone, Copy, PartialEq, Eq)]
@@ -20,20 +24,24 @@ pub enum Standing {
 }
 
 /// What stands at a place. No link is followed.
-pub(crate) fn look<R: Files>(rt: &R, place: &str) -> Result<Standing, Failure> {
+pub(crate) fn look<R: Files>(rt: &R, place: &str) -> io::Result<Standing>
+    ensures present { IfErr result (λ error. ¬ SaysAbsence (error_kind error)) }
+{
     match fs::symlink_metadata(rt, place) {
-        Ok(found) if found.is_file() => Ok(Standing::File),
-        Ok(found) if found.is_dir() => Ok(Standing::Folder),
-        Ok(found) if found.is_symlink() => Ok(Standing::Link),
-        Ok(_) => Ok(Standing::Other),
+        Ok(found) => Ok(kind_of(&found)),
         Err(e) if is_absence(e.kind()) => Ok(Standing::Nothing),
-        Err(e) => Err(Failure::System(e)),
+        Err(e) => Err(e),
     }
 }
 
-/// Whether an error says that nothing stands there.
-fn is_absence(kind: ErrorKind) -> bool {
-    kind == ErrorKind::NotFound
-        || kind == ErrorKind::NotADirectory
-        || kind == ErrorKind::InvalidFilename
+fn kind_of(found: &Metadata) -> Standing {
+    if found.is_file() {
+        Standing::File
+    } else if found.is_dir() {
+        Standing::Folder
+    } else if found.is_symlink() {
+        Standing::Link
+    } else {
+        Standing::Other
+    }
 }

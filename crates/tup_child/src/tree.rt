@@ -1,4 +1,13 @@
 //! The files of the project as they are before the command, and the stage.
+ghost use Rattle.std.specs.Prelude.{◌≡◌, ◌⊎◌, [], IfOk, IfErr, IsErr, Ok, codes, string_bytes};
+ghost use Rattle.tup_child.specs.Cause as cause;
+ghost use Rattle.tup_child.specs.Cause.{IsFailed, IsFailedOrMemory, IsNoList, IsTold, IsUnfound, IsUnresolved};
+ghost use Rattle.tup_child.specs.declared.failure.Failure.TheVariants.{Memory};
+ghost use Rattle.tup_disk.specs.Place.{place_of};
+ghost use Rattle.tup_disk.specs.Told.{IsBarred, IsNamed};
+ghost use Rattle.tup_disk.specs.declared.failure.Operation.TheVariants as operation;
+ghost use Rattle.tup_path.specs.Resolve.{resolve};
+
 use crate::failure::Failure;
 use crate::standing::{Standing, look};
 use std::alloc::Global;
@@ -6,6 +15,7 @@ use std::fs::File;
 use std::io::{ErrorKind, Read};
 use std::rt::Files;
 use std::{fs, io, str};
+use tup_disk::{Operation, place_below};
 use tup_path::{Path, PathFault, Text};
 use tup_proc::{LogLine, write_log};
 
@@ -24,7 +34,10 @@ pub struct Tree<R: Files<File = File> + Clone + Drop> {
 
 impl<R: Files<File = File> + Clone + Drop> Tree<R> {
     /// The project below a root, with the own outputs that the stage lists.
-    pub fn read(rt: R, alloc: Global, root: Text, stage: Text) -> Result<Tree<R>, Failure> {
+    pub fn read(rt: R, alloc: Global, root: Text, stage: Text) -> Result<Tree<R>, Failure>
+        ensures cause { IfErr result (λ failure. IsNoList failure
+            ⊎ IsFailedOrMemory (IsNamed operation.Read (cause.staged stage (codes "own"))) failure) }
+    {
         let mut tree = Tree {
             rt,
             alloc,
@@ -37,14 +50,21 @@ impl<R: Files<File = File> + Clone + Drop> Tree<R> {
     }
 
     /// Reads which paths are the rule's own outputs.
-    fn read_own(&mut self) -> Result<(), Failure> {
+    fn read_own(&mut self) -> Result<(), Failure>
+        ensures cause { IfErr result (λ failure. IsNoList failure
+            ⊎ IsFailedOrMemory
+            (IsNamed operation.Read (cause.staged self.old.stage (codes "own"))) failure) }
+    {
         let list = self.staged_content("own")?;
         self.own = paths_of(self.alloc, list.as_slice())?;
         Ok(())
     }
 
     /// What stood at a path before the command. Its own outputs didn't.
-    pub fn before(&self, path: &Path) -> Result<Standing, Failure> {
+    pub fn before(&self, path: &Path) -> Result<Standing, Failure>
+        ensures cause { IfErr result (IsFailedOrMemory
+            (IsBarred operation.Look (place_of self.now.root path.now))) }
+    {
         if self.own.contains(path) {
             return Ok(Standing::Nothing);
         }
@@ -54,7 +74,10 @@ impl<R: Files<File = File> + Clone + Drop> Tree<R> {
 
     /// What was found at a path before the command: what the file there holds, or where the link
     /// there leads. `None` where neither stood there.
-    pub fn found(&self, path: &Path) -> Result<Option<Vec<u8>>, Failure> {
+    pub fn found(&self, path: &Path) -> Result<Option<Vec<u8>>, Failure>
+        ensures cause { IfErr result
+            (IsFailedOrMemory (IsUnfound (place_of self.now.root path.now))) }
+    {
         match self.before(path)? {
             Standing::File => Ok(Some(self.source_content(path)?)),
             Standing::Link => self.link_text(path),
@@ -63,7 +86,10 @@ impl<R: Files<File = File> + Clone + Drop> Tree<R> {
     }
 
     /// Where the link of a source leads, as bytes. `None` where that isn't UTF-8.
-    fn link_text(&self, path: &Path) -> Result<Option<Vec<u8>>, Failure> {
+    fn link_text(&self, path: &Path) -> Result<Option<Vec<u8>>, Failure>
+        ensures cause { IfErr result (IsFailedOrMemory
+            (IsNamed operation.Look (place_of self.now.root path.now))) }
+    {
         let place = self.source(path)?;
         match self.target(place.as_str())? {
             Some(target) => Ok(Some(target.into_bytes())),
@@ -72,24 +98,30 @@ impl<R: Files<File = File> + Clone + Drop> Tree<R> {
     }
 
     /// Where the link at a place leads. `None` where that isn't UTF-8.
-    pub fn target(&self, place: &str) -> Result<Option<String>, Failure> {
+    pub fn target(&self, place: &str) -> Result<Option<String>, Failure>
+        ensures cause { IfErr result (IsFailedOrMemory (IsNamed operation.Look place.now)) }
+    {
         let runtime = (self.rt.clone()?, self.alloc);
         match fs::read_link(&runtime, place) {
-            Ok(target) => Ok(Some(target.into_string())),
             Err(e) if e.kind() == ErrorKind::InvalidFilename => Ok(None),
-            Err(e) => Err(Failure::System(e)),
+            found => Ok(Some(self.told(Operation::Look, place, found)?.into_string())),
         }
     }
 
     /// What stands at a place. No link is followed.
-    pub fn at(&self, place: &str) -> Result<Standing, Failure> {
-        look(&self.rt, place)
+    pub fn at(&self, place: &str) -> Result<Standing, Failure>
+        ensures cause { IfErr result (IsFailed (IsBarred operation.Look place.now)) }
+    {
+        self.told(Operation::Look, place, look(&self.rt, place))
     }
 
     /// What the file at a place holds.
-    pub fn content(&self, place: &str) -> Result<Vec<u8>, Failure> {
+    pub fn content(&self, place: &str) -> Result<Vec<u8>, Failure>
+        ensures cause { IfErr result (IsFailed (IsNamed operation.Read place.now)) }
+    {
         let mut bytes = Vec::new(self.alloc);
-        self.read_into(&mut bytes, place)?;
+        let done = self.read_into(&mut bytes, place);
+        self.told(Operation::Read, place, done)?;
         Ok(bytes)
     }
 
@@ -100,34 +132,46 @@ impl<R: Files<File = File> + Clone + Drop> Tree<R> {
     }
 
     /// What a file of the stage holds.
-    pub fn staged_content(&self, name: &str) -> Result<Vec<u8>, Failure> {
+    pub fn staged_content(&self, name: &str) -> Result<Vec<u8>, Failure>
+        ensures cause { IfErr result (IsFailedOrMemory
+            (IsNamed operation.Read (cause.staged self.now.stage name.now))) }
+    {
         let place = self.staged(name)?;
         self.content(place.as_str())
     }
 
     /// What a source holds.
-    pub fn source_content(&self, path: &Path) -> Result<Vec<u8>, Failure> {
+    pub fn source_content(&self, path: &Path) -> Result<Vec<u8>, Failure>
+        ensures cause { IfErr result (IsFailedOrMemory
+            (IsNamed operation.Read (place_of self.now.root path.now))) }
+    {
         let place = self.source(path)?;
         self.content(place.as_str())
     }
 
     /// The place of a source.
-    pub fn source(&self, path: &Path) -> Result<String, Failure> {
+    pub fn source(&self, path: &Path) -> Result<String, Failure>
+        ensures place { IfOk result
+            (λ place. string_bytes place ≡ place_of self.now.root path.now) }
+        ensures cause { IfErr result (λ failure. failure ≡ Memory) }
+    {
         self.below(self.root.as_str(), path)
     }
 
     /// The place of a path below a folder.
-    pub fn below(&self, folder: &str, path: &Path) -> Result<String, Failure> {
-        let mut place = String::from_str(self.alloc, folder)?;
-        for name in path.names() {
-            place.push('/')?;
-            place.push_str(name.as_str())?;
-        }
-        Ok(place)
+    pub fn below(&self, folder: &str, path: &Path) -> Result<String, Failure>
+        ensures place { IfOk result (λ place. string_bytes place ≡ place_of folder.now path.now) }
+        ensures cause { IfErr result (λ failure. failure ≡ Memory) }
+    {
+        Ok(place_below(self.alloc, folder, path.names())?)
     }
 
     /// The place of a file of the stage.
-    pub fn staged(&self, name: &str) -> Result<String, Failure> {
+    pub fn staged(&self, name: &str) -> Result<String, Failure>
+        ensures place { IfOk result
+            (λ place. string_bytes place ≡ cause.staged self.now.stage name.now) }
+        ensures cause { IfErr result (λ failure. failure ≡ Memory) }
+    {
         let mut place = String::from_str(self.alloc, self.stage.as_str())?;
         place.push('/')?;
         place.push_str(name)?;
@@ -135,23 +179,48 @@ impl<R: Files<File = File> + Clone + Drop> Tree<R> {
     }
 
     /// Writes a file of the stage.
-    pub fn write_staged(&self, name: &str, content: &[u8]) -> Result<(), Failure> {
+    pub fn write_staged(&self, name: &str, content: &[u8]) -> Result<(), Failure>
+        ensures cause { IfErr result (IsFailedOrMemory
+            (IsNamed operation.Write (cause.staged self.now.stage name.now))) }
+    {
         let place = self.staged(name)?;
-        fs::write(&self.rt, place.as_str(), content)?;
-        Ok(())
+        let done = fs::write(&self.rt, place.as_str(), content);
+        self.told(Operation::Write, place.as_str(), done)
     }
 
     /// Writes the log into the stage.
-    pub fn write_log(&self, log: &[LogLine]) -> Result<(), Failure> {
+    pub fn write_log(&self, log: &[LogLine]) -> Result<(), Failure>
+        ensures cause { IfErr result (IsFailedOrMemory
+            (IsNamed operation.Write (cause.staged self.now.stage (codes "log")))) }
+    {
         match write_log(self.alloc, log) {
             Ok(bytes) => self.write_staged("log", bytes.as_slice()),
             Err(_) => Err(Failure::Memory),
         }
     }
+
+    /// An answer of the system, with what was asked and the place if it is a failure.
+    fn told<T>(
+        &self,
+        operation: Operation,
+        place: &str,
+        answer: io::Result<T>,
+    ) -> Result<T, Failure>
+        ensures { IsTold operation place.now answer result }
+    {
+        match answer {
+            Ok(value) => Ok(value),
+            Err(error) => Err(Failure::Failed(tup_disk::Failure::new(
+                self.alloc, operation, place, error,
+            ))),
+        }
+    }
 }
 
 /// The paths of a list, a line for each.
-fn paths_of(alloc: Global, list: &[u8]) -> Result<Vec<Path>, Failure> {
+fn paths_of(alloc: Global, list: &[u8]) -> Result<Vec<Path>, Failure>
+    ensures cause { IfErr result (λ failure. (failure ≡ Memory) ⊎ IsNoList failure) }
+{
     let Ok(list) = str::from_utf8(list) else {
         return Err(Failure::Because("the list of outputs isn't a text"));
     };
@@ -163,7 +232,11 @@ fn paths_of(alloc: Global, list: &[u8]) -> Result<Vec<Path>, Failure> {
 }
 
 /// The path that a text names from the top.
-pub fn path_of(alloc: Global, text: &str) -> Result<Path, Failure> {
+pub fn path_of(alloc: Global, text: &str) -> Result<Path, Failure>
+    ensures path { IfOk result (λ path. resolve [] text.now ≡ Ok path) }
+    ensures cause { IfErr result (λ failure. (failure ≡ Memory)
+        ⊎ (IsUnresolved failure × IsErr (resolve [] text.now))) }
+{
     match Path::from_top(alloc, text) {
         Ok(path) => Ok(path),
         Err(PathFault::Memory) => Err(Failure::Memory),

@@ -1,5 +1,6 @@
 //! The program's own folder, in which nothing is a file of the tree.
-ghost use Rattle.std.specs.Prelude.{IfOk};
+ghost use Rattle.std.specs.Prelude.{IfOk, IfErr};
+ghost use Rattle.tup_db.specs.Cause.{IsUnswept};
 ghost use Rattle.tup_db.specs.Own.{IsOwnBelow};
 
 use std::alloc::{AllocError, Global};
@@ -29,10 +30,9 @@ impl Own {
     }
 
     /// Removes the store that a run which died was making.
-    pub fn sweep<R: Files<File = File> + Clone + Drop>(
-        &self,
-        disk: &Disk<R>,
-    ) -> Result<(), Refused> {
+    pub fn sweep<R: Files<File = File> + Clone + Drop>(&self, disk: &Disk<R>) -> Result<(), Refused>
+        ensures cause { IfErr result (IsUnswept self.now) }
+    {
         match disk.standing(self.folder.as_str())? {
             Standing::Nothing => Ok(()),
             Standing::Folder => disk.clear(self.aside.as_str()),

@@ -1,8 +1,11 @@
 //! The store's file. It is written in its place: a write that was stopped leaves any bytes in its own
 //! range, and who writes has to reckon with that. Only a store that is made stands aside till it is
 //! durable: so there is none, or one that was synced.
-ghost use Rattle.std.specs.Prelude.{◌≡◌, false, IfOk, OnOk, OnErr, IsOk, IsErr, IsTrue, is_some};
+ghost use Rattle.std.specs.Prelude.{◌≡◌, ◌⊎◌, false, IfOk, IfErr, OnOk, OnErr, IsOk, IsErr, IsTrue, is_some, string_bytes};
+ghost use Rattle.tup_db.specs.Cause as cause;
+ghost use Rattle.tup_db.specs.Cause.{HasNoFile, IsBlocked, IsNotSynced, IsUnbegun, IsUncopied, IsUnmadeAside, IsUnmeasured, IsUnnamed, IsUnread, IsUnreadInPlace, IsUnsettled};
 ghost use Rattle.tup_db.specs.Own.{IsOwnBelow};
+ghost use Rattle.tup_disk.specs.Told.{IsNamed, IsUnsynced};
 
 use crate::own::Own;
 use std::alloc::{AllocError, Global};
@@ -43,10 +46,9 @@ impl Store {
     }
 
     /// The length of the store; 0 where there is none.
-    pub fn len<R: Files<File = File> + Clone + Drop>(
-        &self,
-        disk: &Disk<R>,
-    ) -> Result<u64, Refused> {
+    pub fn len<R: Files<File = File> + Clone + Drop>(&self, disk: &Disk<R>) -> Result<u64, Refused>
+        ensures cause { IfErr result (IsUnmeasured self.now) }
+    {
         match &self.file {
             Some(file) => Ok(
                 disk.at(Operation::Look, self.place(), file.metadata())?
@@ -65,7 +67,9 @@ impl Store {
         disk: &Disk<R>,
         at: u64,
         into: &mut [u8],
-    ) -> Result<(), Refused> {
+    ) -> Result<(), Refused>
+        ensures cause { IfErr result (IsUnread self.now) }
+    {
         match &self.file {
             Some(file) => {
                 let done = file.read_exact_at(into, at);
@@ -87,6 +91,8 @@ impl Store {
         ensures place { IsTrue (is_some self.old.file) → self.new.is_aside ≡ self.old.is_aside }
         ensures lost { self.new.is_lost ≡ self.old.is_lost }
         ensures own { self.new.own ≡ self.old.own }
+        ensures cause { IfErr result (λ refused. HasNoFile self.old refused
+            ⊎ IsNamed Operation.Write (cause.place_of self.new) refused) }
     {
         let file = self.take_file(disk)?;
         let done = file.write_all_at(bytes, at);
@@ -104,6 +110,9 @@ impl Store {
         ensures place { IsTrue (is_some self.old.file) → self.new.is_aside ≡ self.old.is_aside }
         ensures lost { self.new.is_lost ≡ self.old.is_lost }
         ensures own { self.new.own ≡ self.old.own }
+        ensures cause { IfErr result (λ refused. IsUnmeasured self.old refused
+            ⊎ HasNoFile self.old refused
+            ⊎ IsNamed Operation.Cut (cause.place_of self.new) refused) }
     {
         if self.len(disk)? <= to {
             return Ok(());
@@ -126,6 +135,8 @@ impl Store {
         ensures none_lost { OnOk result (self.new.is_lost ≡ false) }
         ensures for_good { IsTrue self.old.is_lost → IsErr result }
         ensures own { self.new.own ≡ self.old.own }
+        ensures cause { IfErr result
+            (IsNotSynced (string_bytes disk.now.root) self.old) }
     {
         if self.is_lost {
             return Err(disk.lost(self.own.store.as_str()));
@@ -142,7 +153,9 @@ impl Store {
     fn sync_bytes<R: Files<File = File> + Clone + Drop>(
         &self,
         disk: &Disk<R>,
-    ) -> Result<(), Refused> {
+    ) -> Result<(), Refused>
+        ensures cause { IfErr result (IsUnsettled self.now) }
+    {
         match &self.file {
             Some(file) => disk.sync_bytes(file, self.place()),
             None if self.is_named => Ok(()),
@@ -154,7 +167,10 @@ impl Store {
     fn sync_in_place<R: Files<File = File> + Clone + Drop>(
         &self,
         disk: &Disk<R>,
-    ) -> Result<(), Refused> {
+    ) -> Result<(), Refused>
+        ensures cause { IfErr result (λ refused. IsBlocked self.now.own refused
+            ⊎ IsUnsynced (string_bytes self.now.own.store) refused) }
+    {
         match self.in_place(disk)? {
             Standing::File { .. } => disk.sync(self.own.store.as_str()),
             _ => Ok(()),
@@ -170,6 +186,8 @@ impl Store {
         ensures kept { self.new.file ≡ self.old.file }
         ensures lost { self.new.is_lost ≡ self.old.is_lost }
         ensures own { self.new.own ≡ self.old.own }
+        ensures cause { IfErr result
+            (IsNamed Operation.Rename (string_bytes self.old.own.store)) }
     {
         if !self.is_aside {
             return Ok(());
@@ -191,6 +209,8 @@ impl Store {
         ensures kept { self.new.file ≡ self.old.file }
         ensures lost { self.new.is_lost ≡ self.old.is_lost }
         ensures own { self.new.own ≡ self.old.own }
+        ensures cause { IfErr result
+            (IsUnnamed (string_bytes disk.now.root) self.old.own) }
     {
         if self.is_named {
             return Ok(());
@@ -202,7 +222,9 @@ impl Store {
     }
 
     // Where the file stands that is written.
-    fn place(&self) -> &str {
+    fn place(&self) -> &str
+        ensures { result.now ≡ cause.place_of self.now }
+    {
         if self.is_aside {
             self.own.aside.as_str()
         } else {
@@ -214,7 +236,9 @@ impl Store {
     fn in_place<R: Files<File = File> + Clone + Drop>(
         &self,
         disk: &Disk<R>,
-    ) -> Result<Standing, Refused> {
+    ) -> Result<Standing, Refused>
+        ensures cause { IfErr result (IsBlocked self.now.own) }
+    {
         let store = self.own.store.as_str();
         match disk.standing(store)? {
             Standing::Folder | Standing::Link | Standing::Other => Err(disk.in_the_way(store)),
@@ -227,7 +251,9 @@ impl Store {
         disk: &Disk<R>,
         at: u64,
         into: &mut [u8],
-    ) -> Result<(), Refused> {
+    ) -> Result<(), Refused>
+        ensures cause { IfErr result (IsUnreadInPlace self.now.own) }
+    {
         if self.in_place(disk)? == Standing::Nothing && into.is_empty() {
             return Ok(());
         }
@@ -245,6 +271,7 @@ impl Store {
         ensures place { IsTrue (is_some self.old.file) → self.new.is_aside ≡ self.old.is_aside }
         ensures lost { self.new.is_lost ≡ self.old.is_lost }
         ensures own { self.new.own ≡ self.old.own }
+        ensures cause { IfErr result (HasNoFile self.old) }
     {
         match self.file.take() {
             Some(file) => Ok(file),
@@ -258,6 +285,7 @@ impl Store {
     ) -> Result<File, Refused>
         ensures lost { self.new.is_lost ≡ self.old.is_lost }
         ensures own { self.new.own ≡ self.old.own }
+        ensures cause { IfErr result (IsUnbegun self.old.own) }
     {
         match self.in_place(disk)? {
             Standing::File { names: 1, .. } => open_to_write(disk, self.own.store.as_str()),
@@ -272,6 +300,7 @@ impl Store {
     ) -> Result<File, Refused>
         ensures lost { self.new.is_lost ≡ self.old.is_lost }
         ensures own { self.new.own ≡ self.old.own }
+        ensures cause { IfErr result (IsUnmadeAside self.old.own) }
     {
         disk.make_unless_there(self.own.folder.as_str())?;
         let aside = self.own.aside.as_str();
@@ -287,6 +316,7 @@ impl Store {
     ) -> Result<File, Refused>
         ensures lost { self.new.is_lost ≡ self.old.is_lost }
         ensures own { self.new.own ≡ self.old.own }
+        ensures cause { IfErr result (IsUncopied self.old.own) }
     {
         let (store, aside) = (self.own.store.as_str(), self.own.aside.as_str());
         disk.at(Operation::Copy, aside, fs::copy(&disk.rt, store, aside))?;
@@ -299,7 +329,9 @@ impl Store {
 fn open_to_write<R: Files<File = File> + Clone + Drop>(
     disk: &Disk<R>,
     place: &str,
-) -> Result<File, Refused> {
+) -> Result<File, Refused>
+    ensures cause { IfErr result (IsNamed Operation.Open place.now) }
+{
     let opened = OpenOptions::new()
         .read(true)
         .write(true)

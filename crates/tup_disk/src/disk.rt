@@ -1,7 +1,7 @@
 //! The folder below which all lies, and the places there.
-ghost use Rattle.std.specs.Prelude.{◌≡◌, ◌-◌, length, take, map, IfOk, string_bytes};
+ghost use Rattle.std.specs.Prelude.{◌≡◌, ◌⊎◌, ◌-◌, length, take, map, IfOk, IfErr, string_bytes};
 ghost use Rattle.tup_disk.specs.Place.{place_of, places_to};
-ghost use Rattle.tup_disk.specs.Told.{IsTold, IsFailure, IsNamed};
+ghost use Rattle.tup_disk.specs.Told.{IsTold, IsFailure, IsNamed, IsOwn};
 
 use crate::failure::{Failure, Operation, Refused};
 use std::alloc::{AllocError, Global};
@@ -53,12 +53,7 @@ impl<R: Files<File = File> + Clone + Drop> Disk<R> {
         ensures { IfOk result
             (λ place. string_bytes place ≡ place_of (string_bytes self.now.root) names.now) }
     {
-        let mut place = String::from_str(self.alloc, self.root.as_str())?;
-        for name in names {
-            place.push('/')?;
-            place.push_str(name.as_str())?;
-        }
-        Ok(place)
+        place_below(self.alloc, self.root.as_str(), names)
     }
 
     /// The places of the folders above a path, from the top down, without the top itself.
@@ -75,7 +70,11 @@ impl<R: Files<File = File> + Clone + Drop> Disk<R> {
 
     /// The lock on the top folder, held as long as the file is. Where the file system knows no
     /// locks nothing keeps another process away.
-    pub fn lock(&self) -> Result<File, Refused> {
+    pub fn lock(&self) -> Result<File, Refused>
+        ensures cause { IfErr result (λ refused.
+            IsNamed Operation.Open (string_bytes self.now.root) refused
+            ⊎ IsOwn Operation.Lock (string_bytes self.now.root) refused) }
+    {
         let root = self.root.as_str();
         let file = self.open(root)?;
         match file.try_lock() {
@@ -88,7 +87,9 @@ impl<R: Files<File = File> + Clone + Drop> Disk<R> {
     }
 
     /// Opens a file, or a folder, to be read.
-    pub fn open(&self, place: &str) -> Result<File, Refused> {
+    pub fn open(&self, place: &str) -> Result<File, Refused>
+        ensures cause { IfErr result (IsNamed Operation.Open place.now) }
+    {
         self.at(Operation::Open, place, File::open(&self.rt, place))
     }
 
@@ -111,20 +112,12 @@ impl<R: Files<File = File> + Clone + Drop> Disk<R> {
     pub fn refused(&self, operation: Operation, place: &str, error: io::Error) -> Refused
         ensures { IsFailure operation place.now error result }
     {
-        let place = match String::from_str(self.alloc, place) {
-            Ok(place) => place,
-            Err(_) => String::new(self.alloc),
-        };
-        Refused::Failed(Failure {
-            operation,
-            place,
-            error,
-        })
+        Refused::Failed(Failure::new(self.alloc, operation, place, error))
     }
 
     /// The failure that something stands here which is neither a file nor a folder of the project.
     pub fn in_the_way(&self, place: &str) -> Refused
-        ensures { IsNamed Operation.Look place.now result }
+        ensures { IsOwn Operation.Look place.now result }
     {
         self.refused(
             Operation::Look,
@@ -135,7 +128,7 @@ impl<R: Files<File = File> + Clone + Drop> Disk<R> {
 
     /// The failure of every sync after one that failed.
     pub fn lost(&self, place: &str) -> Refused
-        ensures { IsNamed Operation.Sync place.now result }
+        ensures { IsOwn Operation.Sync place.now result }
     {
         self.refused(
             Operation::Sync,
@@ -143,4 +136,16 @@ impl<R: Files<File = File> + Clone + Drop> Disk<R> {
             io::Error::other("an earlier write was lost"),
         )
     }
+}
+
+/// The place of these names below a folder, as the system names it.
+pub fn place_below(alloc: Global, root: &str, names: &[Text]) -> Result<String, AllocError>
+    ensures { IfOk result (λ place. string_bytes place ≡ place_of root.now names.now) }
+{
+    let mut place = String::from_str(alloc, root)?;
+    for name in names {
+        place.push('/')?;
+        place.push_str(name.as_str())?;
+    }
+    Ok(place)
 }

@@ -1,5 +1,5 @@
 //! What the system refused, and where.
-use std::alloc::{AllocError, AllocFailed};
+use std::alloc::{AllocError, AllocFailed, Global};
 use std::{fmt, io};
 use thiserror::Error;
 
@@ -46,6 +46,27 @@ pub struct Failure {
     pub(crate) operation: Operation,
     pub(crate) place: String,
     pub(crate) error: io::Error,
+}
+
+impl Failure {
+    ghost use Rattle.std.specs.Prelude.{◌≡◌};
+    ghost use Rattle.tup_disk.specs.Told.{IsFailure};
+    ghost use Rattle.tup_disk.specs.declared.failure.Refused.TheVariants.{Failed};
+
+    /// A failure at a place; where there is no memory for the place, it isn't named.
+    pub fn new(alloc: Global, operation: Operation, place: &str, error: io::Error) -> Failure
+        ensures { IsFailure operation place.now error (Failed result) }
+    {
+        let place = match String::from_str(alloc, place) {
+            Ok(place) => place,
+            Err(_) => String::new(alloc),
+        };
+        Failure {
+            operation,
+            place,
+            error,
+        }
+    }
 }
 
 /// Why something wasn't done.

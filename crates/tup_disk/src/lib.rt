@@ -12,7 +12,7 @@ mod listing;
 mod standing;
 mod touched;
 
-pub use disk::{Disk, Syncs};
+pub use disk::{Disk, Syncs, place_below};
 pub use failure::{Failure, Operation, Refused};
 pub use standing::{Seen, Standing, is_absence};
 pub use touched::Touched;

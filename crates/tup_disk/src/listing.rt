@@ -1,6 +1,9 @@
 //! All files below the folder.
-ghost use Rattle.std.specs.Prelude.{IfOk};
+ghost use Rattle.std.specs.Prelude.{◌≡◌, ◌⊎◌, IfOk, IfErr, string_bytes};
 ghost use Rattle.std.specs.List.Sorted.{IsSorted};
+ghost use Rattle.tup_disk.specs.Place.{place_of};
+ghost use Rattle.tup_disk.specs.Told.{IsNamed, IsUnlisted};
+ghost use Rattle.tup_disk.specs.declared.failure.Refused.TheVariants.{Memory};
 ghost use Rattle.tup_path.specs.Order.{by_names};
 
 use crate::disk::Disk;
@@ -24,7 +27,9 @@ impl<R: Files<File = File> + Clone + Drop> Disk<R> {
     /// The regular files and the links below the top whose names are all visible, in the order of paths. No link is
     /// followed.
     pub fn files(&self, seen: &mut Seen) -> Result<Vec<Path>, Refused>
-        ensures { IfOk result (λ files. IsSorted by_names files.items) }
+        ensures sorted { IfOk result (λ files. IsSorted by_names files.items) }
+        ensures cause { IfErr result (λ refused. (refused ≡ Memory)
+            ⊎ IsUnlisted (string_bytes self.now.root) refused) }
     {
         let mut files = self.walk(seen)?.files;
         files.sort()?;
@@ -32,7 +37,10 @@ impl<R: Files<File = File> + Clone + Drop> Disk<R> {
     }
 
     // From the top down, one folder after another.
-    fn walk(&self, seen: &mut Seen) -> Result<Found, Refused> {
+    fn walk(&self, seen: &mut Seen) -> Result<Found, Refused>
+        ensures cause { IfErr result (λ refused. (refused ≡ Memory)
+            ⊎ IsUnlisted (string_bytes self.now.root) refused) }
+    {
         let mut found = Found {
             files: Vec::new(self.alloc),
             folders: vec![in self.alloc; Path::top(self.alloc)]?,
@@ -47,7 +55,10 @@ impl<R: Files<File = File> + Clone + Drop> Disk<R> {
     }
 
     // Sorts in what stands in a folder, which is seen now.
-    fn look_in(&self, seen: &mut Seen, folder: &Path, found: &mut Found) -> Result<(), Refused> {
+    fn look_in(&self, seen: &mut Seen, folder: &Path, found: &mut Found) -> Result<(), Refused>
+        ensures cause { IfErr result (λ refused. (refused ≡ Memory)
+            ⊎ IsUnlisted (string_bytes self.now.root) refused) }
+    {
         let place = self.place(folder.names())?;
         for name in self.names_in(place.as_str())? {
             self.sort_in(folder, &name, found)?;
@@ -57,7 +68,10 @@ impl<R: Files<File = File> + Clone + Drop> Disk<R> {
     }
 
     // Sorts in what stands in a folder under a name, if that is visible and not too deep.
-    fn sort_in(&self, folder: &Path, name: &Text, found: &mut Found) -> Result<(), Refused> {
+    fn sort_in(&self, folder: &Path, name: &Text, found: &mut Found) -> Result<(), Refused>
+        ensures cause { IfErr result (λ refused. (refused ≡ Memory)
+            ⊎ IsUnlisted (string_bytes self.now.root) refused) }
+    {
         match folder.join(self.alloc, name) {
             Ok(path) => self.sort(path, name, found),
             Err(PathFault::Memory) => Err(Refused::Memory),
@@ -65,7 +79,10 @@ impl<R: Files<File = File> + Clone + Drop> Disk<R> {
         }
     }
 
-    fn sort(&self, path: Path, name: &Text, found: &mut Found) -> Result<(), Refused> {
+    fn sort(&self, path: Path, name: &Text, found: &mut Found) -> Result<(), Refused>
+        ensures cause { IfErr result (λ refused. (refused ≡ Memory)
+            ⊎ IsNamed Operation.Look (place_of (string_bytes self.now.root) path) refused) }
+    {
         let place = self.place(path.names())?;
         match self.found_at(place.as_str())? {
             Standing::File { .. } => found.files.push(path)?,
@@ -80,7 +97,10 @@ impl<R: Files<File = File> + Clone + Drop> Disk<R> {
     }
 
     // A link is found where it can be told where it leads.
-    fn add_link(&self, path: Path, place: &str, found: &mut Found) -> Result<(), Refused> {
+    fn add_link(&self, path: Path, place: &str, found: &mut Found) -> Result<(), Refused>
+        ensures cause { IfErr result (λ refused. (refused ≡ Memory)
+            ⊎ IsNamed Operation.Look place.now refused) }
+    {
         if self.target(place)?.is_some() {
             found.files.push(path)?;
         }
@@ -89,7 +109,9 @@ impl<R: Files<File = File> + Clone + Drop> Disk<R> {
 
     // What stands where a name was found. What went meanwhile is passed over; where the place is too
     // long for the system, that is a failure, as something stands there.
-    fn found_at(&self, place: &str) -> Result<Standing, Refused> {
+    fn found_at(&self, place: &str) -> Result<Standing, Refused>
+        ensures cause { IfErr result (IsNamed Operation.Look place.now) }
+    {
         match self.look(place) {
             Err(e) if e.kind() == ErrorKind::NotFound => Ok(Standing::Nothing),
             found => self.at(Operation::Look, place, found),
@@ -97,7 +119,10 @@ impl<R: Files<File = File> + Clone + Drop> Disk<R> {
     }
 
     /// The names in a folder; one that isn't a text is passed over.
-    pub fn names_in(&self, folder: &str) -> Result<Vec<Text>, Refused> {
+    pub fn names_in(&self, folder: &str) -> Result<Vec<Text>, Refused>
+        ensures cause { IfErr result (λ refused. (refused ≡ Memory)
+            ⊎ IsNamed Operation.List folder.now refused) }
+    {
         let runtime = (self.rt.clone()?, self.alloc);
         let mut names = Vec::new(self.alloc);
         for entry in self.at(Operation::List, folder, fs::read_dir(&runtime, folder))? {
@@ -111,7 +136,10 @@ impl<R: Files<File = File> + Clone + Drop> Disk<R> {
         folder: &str,
         names: &mut Vec<Text>,
         entry: io::Result<DirEntry<(R, Global)>>,
-    ) -> Result<(), Refused> {
+    ) -> Result<(), Refused>
+        ensures cause { IfErr result (λ refused. (refused ≡ Memory)
+            ⊎ IsNamed Operation.List folder.now refused) }
+    {
         match entry {
             Ok(entry) => names.push(Text::from_str(self.alloc, entry.file_name())?)?,
             Err(e) if e.kind() == ErrorKind::InvalidFilename => {}

@@ -1,8 +1,11 @@
 //! What stands at a place.
-ghost use Rattle.std.specs.Prelude.{◌≡◌, ◌⊎◌, ◌↔◌, false, IsTrue, IfOk, OnOk, string_bytes};
-ghost use Rattle.std.specs.declared.io.ErrorKind.TheVariants.{NotFound, NotADirectory, InvalidFilename};
+ghost use Rattle.std.specs.Prelude.{◌≡◌, ◌⊎◌, ◌↔◌, ◌-◌, false, take, length, IsTrue, IfOk, IfErr, IsOk, OnOk, string_bytes};
 ghost use Rattle.std.specs.BTreeSet.{IsEmpty, contains_text};
 ghost use Rattle.tup_disk.specs.Marked.{IsMarked};
+ghost use Rattle.tup_disk.specs.Place.{places_to};
+ghost use Rattle.tup_disk.specs.Told.{IsNamed, IsBarred, IsBarredAbove, IsUnmade, IsUnsynced, SaysAbsence};
+ghost use Rattle.tup_disk.specs.declared.disk.Syncs.TheVariants.{Skipped};
+ghost use Rattle.tup_disk.specs.declared.failure.Refused.TheVariants.{Memory};
 ghost use Rattle.tup_disk.specs.declared.standing.Standing.TheVariants.{Folder};
 
 use crate::disk::{Disk, Syncs};
@@ -66,7 +69,9 @@ impl Seen {
 impl<R: Files<File = File> + Clone + Drop> Disk<R> {
     /// What stands at a place; no link is followed at its end. Where a name is longer than a name
     /// may be nothing stands.
-    pub fn standing(&self, place: &str) -> Result<Standing, Refused> {
+    pub fn standing(&self, place: &str) -> Result<Standing, Refused>
+        ensures cause { IfErr result (IsBarred Operation.Look place.now) }
+    {
         match self.look(place) {
             Err(e) if is_absence(e.kind()) => Ok(Standing::Nothing),
             found => self.at(Operation::Look, place, found),
@@ -79,7 +84,10 @@ impl<R: Files<File = File> + Clone + Drop> Disk<R> {
     }
 
     /// Where the link at a place leads. `None` where that isn't UTF-8, or nothing stands there any more.
-    pub fn target(&self, place: &str) -> Result<Option<String>, Refused> {
+    pub fn target(&self, place: &str) -> Result<Option<String>, Refused>
+        ensures cause { IfErr result (λ refused.
+            (refused ≡ Memory) ⊎ IsBarred Operation.Look place.now refused) }
+    {
         let runtime = (self.rt.clone()?, self.alloc);
         match fs::read_link(&runtime, place) {
             Err(e) if is_absence(e.kind()) => Ok(None),
@@ -89,7 +97,11 @@ impl<R: Files<File = File> + Clone + Drop> Disk<R> {
 
     /// What stands above a path: a folder if all is, or else the first that is none. A folder that
     /// was seen isn't looked at again.
-    pub fn standing_above(&self, seen: &mut Seen, path: &Path) -> Result<Standing, Refused> {
+    pub fn standing_above(&self, seen: &mut Seen, path: &Path) -> Result<Standing, Refused>
+        ensures cause { IfErr result (λ refused. (refused ≡ Memory)
+            ⊎ IsBarredAbove (places_to (string_bytes self.now.root)
+            (take (length path.now - 1) path.now)) refused) }
+    {
         if seen.is_last(path) {
             return Ok(Standing::Folder);
         }
@@ -101,7 +113,9 @@ impl<R: Files<File = File> + Clone + Drop> Disk<R> {
     }
 
     // All above a path stands.
-    fn remember(&self, seen: &mut Seen, path: &Path) -> Result<(), Refused> {
+    fn remember(&self, seen: &mut Seen, path: &Path) -> Result<(), Refused>
+        ensures cause { IfErr result (λ refused. refused ≡ Memory) }
+    {
         match path.parent(self.alloc) {
             Ok(folder) => seen.last = folder,
             Err(_) => return Err(Refused::Memory),
@@ -110,7 +124,11 @@ impl<R: Files<File = File> + Clone + Drop> Disk<R> {
     }
 
     // The same, one folder after another from the top down.
-    fn look_above(&self, seen: &mut Seen, path: &Path) -> Result<Standing, Refused> {
+    fn look_above(&self, seen: &mut Seen, path: &Path) -> Result<Standing, Refused>
+        ensures cause { IfErr result (λ refused. (refused ≡ Memory)
+            ⊎ IsBarredAbove (places_to (string_bytes self.now.root)
+            (take (length path.now - 1) path.now)) refused) }
+    {
         for folder in self.folders_above(path)? {
             let standing = self.standing_of_folder(seen, folder)?;
             if standing != Standing::Folder {
@@ -122,8 +140,10 @@ impl<R: Files<File = File> + Clone + Drop> Disk<R> {
 
     // What stands where a folder is wanted. One that is there is marked.
     fn standing_of_folder(&self, seen: &mut Seen, folder: String) -> Result<Standing, Refused>
-        ensures { IfOk result
+        ensures marks { IfOk result
             (λ standing. standing ≡ Folder → IsMarked seen.new.folders (string_bytes folder)) }
+        ensures cause { IfErr result (λ refused. (refused ≡ Memory)
+            ⊎ IsBarred Operation.Look (string_bytes folder) refused) }
     {
         if seen.folders.contains(&folder) {
             return Ok(Standing::Folder);
@@ -138,7 +158,9 @@ impl<R: Files<File = File> + Clone + Drop> Disk<R> {
     /// Makes a folder unless it was seen or stands there, and marks it. All else that stands there
     /// is a failure.
     pub fn make_folder(&self, seen: &mut Seen, folder: &String) -> Result<(), Refused>
-        ensures { OnOk result (IsMarked seen.new.folders (string_bytes folder.now)) }
+        ensures marks { OnOk result (IsMarked seen.new.folders (string_bytes folder.now)) }
+        ensures cause { IfErr result (λ refused. (refused ≡ Memory)
+            ⊎ IsUnmade (string_bytes folder.now) refused) }
     {
         if seen.folders.contains(folder) {
             return Ok(());
@@ -149,7 +171,9 @@ impl<R: Files<File = File> + Clone + Drop> Disk<R> {
     }
 
     /// Makes a folder unless one stands there.
-    pub fn make_unless_there(&self, folder: &str) -> Result<(), Refused> {
+    pub fn make_unless_there(&self, folder: &str) -> Result<(), Refused>
+        ensures cause { IfErr result (IsUnmade folder.now) }
+    {
         match self.standing(folder)? {
             Standing::Folder => Ok(()),
             Standing::Nothing => self.at(Operation::Make, folder, fs::create_dir(&self.rt, folder)),
@@ -167,12 +191,16 @@ impl<R: Files<File = File> + Clone + Drop> Disk<R> {
     }
 
     /// Removes a file.
-    pub fn remove(&self, place: &str) -> Result<(), Refused> {
+    pub fn remove(&self, place: &str) -> Result<(), Refused>
+        ensures cause { IfErr result (IsNamed Operation.Remove place.now) }
+    {
         self.at(Operation::Remove, place, fs::remove_file(&self.rt, place))
     }
 
     /// Removes a file unless there is none.
-    pub fn clear(&self, place: &str) -> Result<(), Refused> {
+    pub fn clear(&self, place: &str) -> Result<(), Refused>
+        ensures cause { IfErr result (IsBarred Operation.Remove place.now) }
+    {
         match fs::remove_file(&self.rt, place) {
             Err(e) if is_absence(e.kind()) => Ok(()),
             done => self.at(Operation::Remove, place, done),
@@ -180,7 +208,10 @@ impl<R: Files<File = File> + Clone + Drop> Disk<R> {
     }
 
     /// Makes a file or a folder durable. What went again needs no more than its folder.
-    pub fn sync(&self, place: &str) -> Result<(), Refused> {
+    pub fn sync(&self, place: &str) -> Result<(), Refused>
+        ensures cause { IfErr result (IsUnsynced place.now) }
+        ensures skipped { self.now.syncs ≡ Skipped → IsOk result }
+    {
         if self.syncs == Syncs::Skipped {
             return Ok(());
         }
@@ -192,7 +223,10 @@ impl<R: Files<File = File> + Clone + Drop> Disk<R> {
     }
 
     /// Makes the bytes of an open file durable.
-    pub fn sync_bytes(&self, file: &File, place: &str) -> Result<(), Refused> {
+    pub fn sync_bytes(&self, file: &File, place: &str) -> Result<(), Refused>
+        ensures cause { IfErr result (IsNamed Operation.Sync place.now) }
+        ensures skipped { self.now.syncs ≡ Skipped → IsOk result }
+    {
         if self.syncs == Syncs::Skipped {
             return Ok(());
         }
@@ -219,8 +253,7 @@ fn kind_of(found: &Metadata) -> Standing {
 /// Whether an error says that nothing stands at the place, as where its name is longer than a name
 /// may be.
 pub fn is_absence(kind: ErrorKind) -> bool
-    ensures { IsTrue result
-        ↔ ((kind ≡ NotFound) ⊎ (kind ≡ NotADirectory) ⊎ (kind ≡ InvalidFilename)) }
+    ensures { IsTrue result ↔ SaysAbsence kind }
 {
     matches!(
         kind,

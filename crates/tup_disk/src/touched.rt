@@ -1,8 +1,11 @@
 //! What isn't durable yet.
-ghost use Rattle.std.specs.Prelude.{◌≡◌, false, IfOk, OnOk, OnErr, IsErr, IsTrue, map, string_bytes};
+ghost use Rattle.std.specs.Prelude.{◌≡◌, ◌⊎◌, false, IfErr, OnOk, OnErr, IsErr, IsTrue, map, string_bytes};
 ghost use Rattle.std.specs.BTreeSet.{IsEmpty};
 ghost use Rattle.tup_disk.specs.Marked.{IsMarked, AllMarked, StayMarked, places_above};
 ghost use Rattle.tup_disk.specs.Place.{place_of};
+ghost use Rattle.tup_disk.specs.Told.{IsOwn, IsUnsyncedAmong};
+ghost use Rattle.tup_disk.specs.declared.failure.Operation.TheVariants as operation;
+ghost use Rattle.tup_disk.specs.declared.failure.Refused.TheVariants.{Memory};
 
 use crate::disk::Disk;
 use crate::failure::Refused;
@@ -43,6 +46,7 @@ impl Touched {
             (AllMarked self.new.places (places_above (string_bytes disk.now.root) path.now)) }
         ensures keeps { StayMarked self.old.places self.new.places }
         ensures lost { self.new.is_lost ≡ self.old.is_lost }
+        ensures cause { IfErr result (λ refused. refused ≡ Memory) }
     {
         let top = String::from_str(disk.alloc, disk.root())?;
         let folders = disk.folders_above(path)?;
@@ -62,6 +66,7 @@ impl Touched {
             (IsMarked self.new.places (place_of (string_bytes disk.now.root) path.now)) }
         ensures keeps { StayMarked self.old.places self.new.places }
         ensures lost { self.new.is_lost ≡ self.old.is_lost }
+        ensures cause { IfErr result (λ refused. refused ≡ Memory) }
     {
         let place = disk.place(path.names())?;
         mark(&mut self.places, &place)?;
@@ -79,6 +84,10 @@ impl Touched {
         ensures lost { OnErr result (IsTrue self.new.is_lost) }
         ensures none_lost { OnOk result (self.new.is_lost ≡ false) }
         ensures for_good { IsTrue self.old.is_lost → IsErr result }
+        ensures cause { IfErr result (λ refused.
+            (IsTrue self.old.is_lost
+            × IsOwn operation.Sync (string_bytes disk.now.root) refused)
+            ⊎ IsUnsyncedAmong self.old.places refused) }
     {
         if self.is_lost {
             return Err(disk.lost(disk.root()));
@@ -90,7 +99,9 @@ impl Touched {
         Ok(())
     }
 
-    fn sync<R: Files<File = File> + Clone + Drop>(&self, disk: &Disk<R>) -> Result<(), Refused> {
+    fn sync<R: Files<File = File> + Clone + Drop>(&self, disk: &Disk<R>) -> Result<(), Refused>
+        ensures cause { IfErr result (IsUnsyncedAmong self.now.places) }
+    {
         for place in self.places.iter() {
             disk.sync(place.as_str())?;
         }
@@ -101,6 +112,7 @@ impl Touched {
 fn mark_all(marked: &mut BTreeSet<String>, folders: &[String]) -> Result<(), Refused>
     ensures marked { OnOk result (AllMarked marked.new (map string_bytes folders.now)) }
     ensures keeps { StayMarked marked.old marked.new }
+    ensures cause { IfErr result (λ refused. refused ≡ Memory) }
 {
     for folder in folders {
         mark(marked, folder)?;
@@ -111,6 +123,7 @@ fn mark_all(marked: &mut BTreeSet<String>, folders: &[String]) -> Result<(), Ref
 fn mark(marked: &mut BTreeSet<String>, place: &String) -> Result<(), Refused>
     ensures marked { OnOk result (IsMarked marked.new (string_bytes place.now)) }
     ensures keeps { StayMarked marked.old marked.new }
+    ensures cause { IfErr result (λ refused. refused ≡ Memory) }
 {
     marked.insert(place.clone()?)?;
     Ok(())

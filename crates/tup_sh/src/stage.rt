@@ -17,7 +17,7 @@ pub(crate) fn prepare<R: Files<File = File> + Processes + Clone + Drop>(
     tree: &Tree<R>,
 ) -> Result<(), Failure> {
     match make(tree) {
-        Err(Failure::System(_)) => Err(refused()),
+        Err(Failure::Failed(_) | Failure::System(_)) => Err(refused()),
         made => made,
     }
 }
