@@ -36,7 +36,7 @@ pub(crate) fn stopped<W: Threads + Wait + Sync>(
     said: &Words,
 ) -> Result<Words, RowFault> {
     let disturbed = Disturbed::new(rt, alloc, steps, said)?;
-    let mut table = Table::new(alloc);
+    let mut table = Table::of_runners(alloc, disturbed.runners);
     for stop in 0..MAX_CALLS {
         if disturbed.stop(alloc, &mut table, stop)? {
             return Ok(table.words(alloc, stop));
