@@ -4,13 +4,14 @@ use Rattle.std.specs.Prelude.{slice_get, bytes_eq}
 use Rattle.std.specs.BTreeSet.{insert_key}
 use Rattle.std.specs.List.{cons_option}
 use Rattle.std.specs.Result.{result_ok}
-use Rattle.std.proofs.lemmas.Bool.{or_parts, or_right}
+use Rattle.std.proofs.lemmas.Bool.{and_from, and_parts, false≢true, or_left, or_parts, or_right}
 use Rattle.std.proofs.lemmas.List.{append-nil}
 use Rattle.std.proofs.lemmas.List.Elements.{filter_map-append}
 use Rattle.std.proofs.lemmas.List.Folds.{list_any-append}
 use Rattle.tup_path.specs.Name.{Names}
 use Rattle.tup_path.specs.Order.{by_bytes, same_path}
 use Rattle.tup_path.specs.Resolve.{above}
+use Rattle.tup_path.proofs.Same.{same_bytes-decides}
 use Rattle.tup_path.proofs.Walks.{above_last}
 use Rattle.tup_rule_line.specs.Folder.{name_in}
 use Rattle.tup_rule_line.specs.Glob.{names_among, in_order}
@@ -75,6 +76,30 @@ below_named [] (first ∷ up) name = refl
 below_named (first ∷ dir) [] name = ap (λ b. bytes_eq first name && b) (nothing_below dir) ∙ and_false (bytes_eq first name)
 below_named (first ∷ dir) (second ∷ up) name =
     ap (λ b. bytes_eq first second && b) (below_named dir up name) ∙ and_or (bytes_eq first second) (same_path dir up) (is_below dir up)
+
+-- a folder doesn't lie below itself
+pub not_below_itself : (dir : Names) → is_below dir dir ≡ false
+not_below_itself [] = refl
+not_below_itself (name ∷ dir) = ap (λ b. bytes_eq name name && b) (not_below_itself dir) ∙ and_false (bytes_eq name name)
+
+-- what lies below a folder lies below what that lies below
+below_through : (dir up path : Names) → is_below dir up ≡ true → is_below up path ≡ true → is_below dir path ≡ true
+below_through [] up [] over under = absurd (false≢true (sym (nothing_below up) ∙ under))
+below_through [] up (name ∷ path) over under = refl
+below_through (first ∷ dir) [] path over under = absurd (false≢true over)
+below_through (first ∷ dir) (second ∷ up) [] over under = absurd (false≢true under)
+below_through (first ∷ dir) (second ∷ up) (name ∷ path) over under =
+    let front = and_parts (bytes_eq first second) (is_below dir up) over in
+    let back = and_parts (bytes_eq second name) (is_below up path) under in
+    and_from (bytes_eq first name) (is_below dir path) (ap (λ b. bytes_eq b name) ((same_bytes-decides first second).0 front.0) ∙ back.0) (below_through dir up path front.1 back.1)
+
+pub has_below_through : (dir up : Names) (paths : List Names) → is_below dir up ≡ true → has_below paths up ≡ true → has_below paths dir ≡ true
+has_below_through dir up [] over has = has
+has_below_through dir up (path ∷ paths) over has =
+    (elim (is_below up path) as (λ b. is_below up path ≡ b → (b || has_below paths up) ≡ true → (is_below dir path || has_below paths dir) ≡ true) [
+      | true ↦ λ under some. or_left (is_below dir path) (has_below paths dir) (below_through dir up path over under)
+      | false ↦ λ under some. or_right (is_below dir path) (has_below paths dir) (has_below_through dir up paths over some)
+    ]) refl has
 
 -- what isn't below a folder isn't in it
 not_in_it : (dir path : Names) → is_below dir path ≡ false → name_in dir path ≡ None

@@ -20,8 +20,8 @@ use Rattle.tup_path.specs.declared.fault.PathFault.{PathFault}
 use Rattle.tup_path.specs.declared.fault.PathFault.TheVariants as path_fault
 use Rattle.tup_rule_line.specs.Glob.{in_order}
 use Rattle.tup_readings.specs.Sources.{is_source, tupfile, is_below, has_below, names_in_folder, folder_of}
-use Rattle.tup_readings.specs.Index.{AreTupfiles, FolderMap, names_of, AreFolders, AddsFile, or_none, AddsFolders, AddsName}
-use Rattle.tup_readings.proofs.Below.{above_named, nothing_below, below_named, lasts, none_in_it, or_false, with_file, with_top}
+use Rattle.tup_readings.specs.Index.{AreTupfiles, FolderMap, names_of, AreFolders, AddsAbove, AddsFile, AddsFolders, or_none, AddsName}
+use Rattle.tup_readings.proofs.Below.{above_named, nothing_below, below_named, has_below_through, lasts, not_below_itself, none_in_it, or_false, with_file, with_top}
 
 -- ---- a path as its folder and its name
 
@@ -188,6 +188,30 @@ folder_there path up dir name old mid is above there =
     by true e = some_before (is_below dir up) old
         (ap (λ (names : Option (List (List ℕ))). is_some names) (sym above) ∙ there_or_not (λ (set : BTreeSet (List ℕ)). set.keys) mid ∙ there ((same_path-decides dir up).0 e))
 
+-- ---- all above a folder are there
+
+pub all_above : (folders : FolderMap) (path : Names) → is_some (get by_names folders path) ≡ true → AddsAbove path folders folders
+all_above folders path there paths are dir = by (is_below dir path) refl
+  where
+    has : has_below paths path ≡ true
+    has =
+        sym (if_there (has_below paths path) (names_in_folder paths path)) ∙ ap (λ (names : Option (List (List ℕ))). is_some names) (sym (are path))
+        ∙ there_or_not (λ (set : BTreeSet (List ℕ)). set.keys) (get by_names folders path) ∙ there
+
+    by : (b : Bool) → is_below dir path ≡ b → names_of folders dir ≡ cond b (Some (or_none (names_of folders dir))) (names_of folders dir)
+    by true e =
+        let some : names_of folders dir ≡ Some (names_in_folder paths dir) = are dir ∙ ap (λ b. cond b (Some (names_in_folder paths dir)) None) (has_below_through dir path paths e has) in
+        some ∙ ap (λ (found : Option (List (List ℕ))). Some (or_none found)) (sym some)
+    by false e = refl
+
+-- a folder that isn't there isn't among those above it either
+pub none_yet : (dir : Names) (old mid : FolderMap) → AddsFolders dir old mid → get by_names old dir ≡ None → get by_names mid dir ≡ None
+none_yet dir old mid adds none =
+    none_there (get by_names mid dir)
+    (sym (there_or_not (λ (set : BTreeSet (List ℕ)). set.keys) (get by_names mid dir))
+    ∙ ap (λ (names : Option (List (List ℕ))). is_some names)
+    (adds dir ∙ ap (λ b. cond b (Some (or_none (names_of old dir))) (names_of old dir)) (not_below_itself dir) ∙ ap (option_map (λ (set : BTreeSet (List ℕ)). set.keys)) none))
+
 -- ---- one name more
 
 pub name_added : (dir other : Names) (name : List ℕ) (old new : Option (BTreeSet (List ℕ))) (set : BTreeSet (List ℕ)) → new ≡ cond (eq_by_cmp by_names dir other) (Some set) old
@@ -208,11 +232,11 @@ name_added dir other name old new set changed keys =
 
 -- ---- one file more
 
-pub file_added : (path up : Names) (name : List ℕ) (old mid new : FolderMap) → path ≡ up ++ name ∷ [] → AddsFolders up old mid → AddsName up name mid new → AddsFile path old new
+pub file_added : (path up : Names) (name : List ℕ) (old mid new : FolderMap) → path ≡ up ++ name ∷ [] → AddsAbove up old mid → AddsName up name mid new → AddsFile path old new
 file_added path up name old mid new is folders named paths are dir =
     named dir
     ∙ ap (λ (found : Option (List (List ℕ))). cond (same_path dir up) (Some (insert_key by_bytes (or_none found) name)) found)
-    (folders dir ∙ ap (λ (found : Option (List (List ℕ))). cond (is_below dir up) (Some (or_none found)) found) (are dir))
+    (folders paths are dir ∙ ap (λ (found : Option (List (List ℕ))). cond (is_below dir up) (Some (or_none found)) found) (are dir))
     ∙ with_file paths dir up name ∙ ap (λ p. folder_of (paths ++ p ∷ []) dir) (sym is)
 
 pub top_added : (path : Names) (folders : FolderMap) → path ≡ [] → AddsFile path folders folders

@@ -45,6 +45,10 @@ or_none None = []
 abbrev pub AddsFolders : Names → FolderMap → FolderMap → Type 0
 AddsFolders path old new = (dir : Names) → names_of new dir ≡ (if is_below dir path then Some (or_none (names_of old dir)) else names_of old dir)
 
+-- the folders of some paths that have all folders above one path more
+abbrev pub AddsAbove : Names → FolderMap → FolderMap → Type 0
+AddsAbove path old new = (paths : List Names) → AreFolders paths old → AddsFolders path old new
+
 -- a map that has one name more in a folder, which is there then
 abbrev pub AddsName : Names → List ℕ → FolderMap → FolderMap → Type 0
 AddsName dir name old new = (other : Names)

@@ -134,7 +134,6 @@ fn add_file(
     let Some((dir, name)) = parted(alloc, path)? else {
         return Ok(());
     };
-    add_folders(alloc, folders, &dir)?;
     add_tupfile(tupfiles, &dir, &name)?;
     add_name(alloc, folders, dir, name)
 }
@@ -164,9 +163,9 @@ fn add_tupfile(dirs: &mut BTreeSet<Path>, dir: &Path, name: &Text) -> Result<(),
     Ok(())
 }
 
-/// Adds a name to those of a folder, which is added if it isn't there.
+/// Adds a name to those of a folder. Where the folder isn't there it is added, with all folders above it.
 fn add_name(alloc: Global, folders: &mut Folders, dir: Path, name: Text) -> Result<(), AllocError>
-    ensures { OnOk result (AddsName dir name folders.old folders.new) }
+    ensures { OnOk result (AddsFile (dir ++ name ∷ []) folders.old folders.new) }
 {
     let Some(names) = folders.get_mut(&dir) else {
         return begin(alloc, folders, dir, name);
@@ -175,8 +174,22 @@ fn add_name(alloc: Global, folders: &mut Folders, dir: Path, name: Text) -> Resu
     Ok(())
 }
 
-/// Adds a folder that isn't there, with one name.
+/// Adds a folder that isn't there, with one name, and all folders above it that aren't there.
 fn begin(alloc: Global, folders: &mut Folders, dir: Path, name: Text) -> Result<(), AllocError>
+    requires { get by_names folders.old dir ≡ None }
+    ensures { OnOk result (AddsFile (dir ++ name ∷ []) folders.old folders.new) }
+{
+    add_folders(alloc, folders, &dir)?;
+    begin_names(alloc, folders, dir, name)
+}
+
+/// Adds a folder that isn't there, with one name.
+fn begin_names(
+    alloc: Global,
+    folders: &mut Folders,
+    dir: Path,
+    name: Text,
+) -> Result<(), AllocError>
     requires { get by_names folders.old dir ≡ None }
     ensures { OnOk result (AddsName dir name folders.old folders.new) }
 {

@@ -1,9 +1,10 @@
-use Rattle.std.proofs.Common.{subst}
+use Rattle.std.proofs.Common.{subst, sym}
 use Rattle.std.specs.BTreeSet.{contains}
 use Rattle.std.proofs.lemmas.Result.{on_ok_weaker}
+use Rattle.tup_path.specs.Name.{Names}
 use Rattle.tup_path.specs.Order.{by_names}
-use Rattle.tup_readings.specs.Index.{IsParted}
-use Rattle.tup_readings.proofs.Indexed.{file_added, top_added, top_no_tupfile}
+use Rattle.tup_readings.specs.Index.{AddsFile, IsParted}
+use Rattle.tup_readings.proofs.Indexed.{top_added, top_no_tupfile}
 use Rattle.tup_readings.proofs.sources.add_file.Goals as goal
 
 pub returns-in_default-clause-folders : goal.returns-in_default-clause-folders
@@ -16,7 +17,7 @@ returns-in_default-clause-tupfiles c = λ dir.
 pub returns-clause-folders : goal.returns-clause-folders
 returns-clause-folders c =
     let parted = subst (IsParted c.args.path.now) c.in-Some.is c.in_ok-dir.ensures in
-    on_ok_weaker c.add_name.result (λ named. file_added c.args.path.now c.in-Some.dir c.in-Some.name c.args.folders.now c.add_folders.new.folders c.add_name.new.folders parted c.in_ok-add_folders.ensures named) c.add_name.ensures
+    on_ok_weaker c.add_name.result (λ added. subst (λ (path : Names). AddsFile path c.args.folders.now c.add_name.new.folders) (sym parted) added) c.add_name.ensures
 
 pub returns-clause-tupfiles : goal.returns-clause-tupfiles
 returns-clause-tupfiles c =

@@ -1,19 +1,15 @@
-use Rattle.std.proofs.Common.{ℕ, List, Option, sym, ap, ◌∙◌}
-use Rattle.std.specs.Prelude.{option_map}
-use Rattle.std.specs.BTreeMap.{get}
-use Rattle.std.specs.BTreeSet.{BTreeSet, insert_key}
-use Rattle.tup_path.specs.Order.{by_bytes, by_names}
-use Rattle.tup_readings.specs.Index.{or_none}
-use Rattle.tup_readings.proofs.Indexed.{name_added}
+use Rattle.std.proofs.Common.{◌∷◌, [], ◌++◌, refl}
+use Rattle.std.proofs.lemmas.Result.{on_ok_weaker}
+use Rattle.tup_readings.proofs.Indexed.{file_added, none_yet}
 use Rattle.tup_readings.proofs.sources.begin.Goals as goal
+
+pub begin_names-requires : goal.begin_names-requires
+begin_names-requires c = none_yet c.args.dir c.args.folders.now c.add_folders.new.folders c.in_ok-add_folders.ensures c.requires
 
 pub returns : goal.returns
 returns c =
     let dir = c.args.dir in
-    let old = c.args.folders.now in
-    λ other. name_added dir other c.args.name (get by_names old other) (get by_names c.insert-2.new.self other) c.insert.new.self
-    (c.in_ok-insert-2.ensures.updates.0 other)
-    (λ same.
-    c.in_ok-insert.ensures.keys ∙ ap (λ (keys : List (List ℕ)). insert_key by_bytes keys c.args.name) c.new-names.ensures.empty
-    ∙ ap (λ (found : Option (BTreeSet (List ℕ))). insert_key by_bytes (or_none (option_map (λ (s : BTreeSet (List ℕ)). s.keys) found)) c.args.name)
-    (sym (ap (get by_names old) same ∙ c.requires)))
+    let name = c.args.name in
+    on_ok_weaker c.begin_names.result
+    (λ named. file_added (dir ++ name ∷ []) dir name c.args.folders.now c.add_folders.new.folders c.begin_names.new.folders refl (λ paths are. c.in_ok-add_folders.ensures) named)
+    c.begin_names.ensures
