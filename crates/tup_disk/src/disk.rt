@@ -18,6 +18,9 @@ pub enum Syncs {
     Skipped,
 }
 
+/// How many bytes the names of most paths take, with a slash before each.
+const ROOM: usize = 64;
+
 /// The folder below which all lies, and the way to it.
 #[derive(Drop)]
 pub struct Disk<R: Files<File = File> + Clone + Drop> {
@@ -142,10 +145,19 @@ impl<R: Files<File = File> + Clone + Drop> Disk<R> {
 pub fn place_below(alloc: Global, root: &str, names: &[Text]) -> Result<String, AllocError>
     ensures { IfOk result (λ place. string_bytes place ≡ place_of root.now names.now) }
 {
-    let mut place = String::from_str(alloc, root)?;
+    let mut place = with_room(alloc, root)?;
     for name in names {
         place.push('/')?;
         place.push_str(name.as_str())?;
     }
+    Ok(place)
+}
+
+/// The place of a folder, with room for the names of most paths, so that it needn't grow with each of them.
+fn with_room(alloc: Global, root: &str) -> Result<String, AllocError>
+    ensures { IfOk result (λ place. string_bytes place ≡ root.now) }
+{
+    let mut place = String::with_capacity(alloc, root.len().saturating_add(ROOM))?;
+    place.push_str(root)?;
     Ok(place)
 }
