@@ -50,7 +50,7 @@ fn write_name(name: &Text, bytes: &mut Bytes) -> Result<(), RecordFault>
         (λ _. bytes.new ≡ bytes.old ++ formats.name.spelling name.now)
         (λ fault. fault ≡ RecordFault.Memory) }
 {
-    let name = name.bytes().as_slice();
+    let name = name.as_bytes();
     bytes.extend_from_slice(&[name.len() as u8])?;
     bytes.extend_from_slice(name)?;
     Ok(())
@@ -110,7 +110,7 @@ fn read_part(alloc: Global, reader: &mut Reader<'_>) -> Result<Text, RecordFault
 {
     let length = reader.byte()?;
     let part = reader.bytes(length as usize)?;
-    let Some(part) = Text::new(Bytes::new(Vec::from_slice(alloc, part)?)) else {
+    let Some(part) = Text::from_utf8(alloc, part)? else {
         return Err(RecordFault::BadField);
     };
     Ok(part)

@@ -14,7 +14,7 @@ impl Field for Text {
     ghost exact = { text-exact };
 
     fn write(&self, bytes: &mut Bytes) -> Result<(), RecordFault> {
-        let text = self.bytes().as_slice();
+        let text = self.as_bytes();
         let Ok(length) = u32::try_from(text.len()) else {
             return Err(RecordFault::BadField);
         };
@@ -27,7 +27,7 @@ impl Field for Text {
     fn read(alloc: Global, reader: &mut Reader<'_>) -> Result<Text, RecordFault> {
         let length = u32::read(alloc, reader)?;
         let text = reader.bytes(length as usize)?;
-        let Some(text) = Text::new(Bytes::new(Vec::from_slice(alloc, text)?)) else {
+        let Some(text) = Text::from_utf8(alloc, text)? else {
             return Err(RecordFault::BadField);
         };
         Ok(text)

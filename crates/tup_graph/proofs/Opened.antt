@@ -1,5 +1,6 @@
 -- A loop over the entries of a table: the graph so far, and what refuses an entry.
-use Rattle.std.proofs.Common.{◌≡◌, ◌⊎◌, ℕ, true, List, [], ◌∷◌, ◌++◌, Result, Ok, Err, OnOk, IfErr, MatchResult, refl, sym, ap, subst, ◌∙◌, inl, inr, append_assoc, append-nil}
+use Rattle.std.proofs.Common.{◌≡◌, ◌⊎◌, ℕ, true, false, List, [], ◌∷◌, ◌++◌, Result, Ok, Err, OnOk, IfErr, MatchResult, refl, sym, ap, subst, ◌∙◌, inl, inr, append_assoc, append-nil}
+use Rattle.std.proofs.lemmas.Bool.{false≢true}
 use Rattle.tup_record.specs.declared.record.Record.{Record}
 use Rattle.tup_field.specs.declared.fault.RecordFault.{RecordFault}
 use Rattle.tup_field.specs.declared.fault.RecordFault.TheVariants.{Short, BadKind, BadField, Trailing, Memory}
@@ -30,6 +31,18 @@ no_record g entry fault other only r takes =
   where
     fault_of : err_of fault ≡ err_of Memory → fault ≡ Memory
     fault_of e = cc
+
+same_found : (found r : Record) → ok_of found ≡ ok_of r → found ≡ r
+same_found found r e = cc
+
+-- a record that doesn't fit isn't taken
+no_fit : (g : GraphState) (entry : List ℕ × Entry) (found : Record) → fits g found ≡ false → ((r : Record) → IsSpelled entry.0 entry.1.value r → Gives (Ok found) (Ok r))
+    → (r : Record) → Takes g entry r → ⊥
+no_fit g entry found unfit only r takes =
+    elim (only r takes.0) [
+      | inl memory ↦ let no : ok_of found ≡ err_of Memory = memory in cc
+      | inr read ↦ false≢true (sym unfit ∙ ap (fits g) (same_found found r read) ∙ takes.1)
+    ]
 
 -- ---- the loop: the entries so far, and those that are left
 pub record IsSoFar (entries left : Standing) (g : GraphState) : Type 0 where
@@ -77,6 +90,10 @@ refused_by g entry Short only = inr (refl, no_record g entry Short (λ e. cc) on
 refused_by g entry BadKind only = inr (refl, no_record g entry BadKind (λ e. cc) only)
 refused_by g entry BadField only = inr (refl, no_record g entry BadField (λ e. cc) only)
 refused_by g entry Trailing only = inr (refl, no_record g entry Trailing (λ e. cc) only)
+
+pub refused_unfit : (g : GraphState) (entry : List ℕ × Entry) (found : Record) → fits g found ≡ false → ((r : Record) → IsSpelled entry.0 entry.1.value r → Gives (Ok found) (Ok r))
+    → (BadStore entry.1.origin ≡ GraphMemory) ⊎ ((BadStore entry.1.origin ≡ BadStore entry.1.origin) × ((r : Record) → Takes g entry r → ⊥))
+refused_unfit g entry found unfit only = inr (refl, no_fit g entry found unfit only)
 
 pub read_refused : (entries left rest : Standing) (x : List ℕ × Entry) (g : GraphState) → IsSoFar entries left g → left ≡ x ∷ rest → (fault : GraphFault)
     → (fault ≡ GraphMemory) ⊎ ((fault ≡ BadStore x.1.origin) × ((r : Record) → Takes g x r → ⊥)) → (fault ≡ GraphMemory) ⊎ ((offset : ℕ) × (fault ≡ BadStore offset) × IsBroken entries offset)

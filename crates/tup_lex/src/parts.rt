@@ -46,7 +46,7 @@ pub fn rule_parts(alloc: Global, text: &Text) -> Result<Parts, LexFault>
     ensures parts { (result ≡ Err Memory) ⊎ (result ≡ rule_parts text.now) }
     ensures lie { IfOk result (LieIn (length text.now)) }
 {
-    parts_in(alloc, text.bytes().as_slice())
+    parts_in(alloc, text.as_bytes())
 }
 
 fn parts_in(alloc: Global, text: &[u8]) -> Result<Parts, LexFault>

@@ -10,6 +10,7 @@ ghost use Rattle.std.proofs.Common.{rules};
 ghost use Rattle.tup_path.specs.Order.{by_bytes};
 
 use crate::bytes::Bytes;
+use smallvec::SmallVec;
 use std::alloc::{AllocError, Global};
 use std::cmp::Ordering;
 use std::hash::{Hash, Hasher};
@@ -19,10 +20,13 @@ use std::{fmt, str};
 /// How many bytes a text may have once its variables or flags are put in.
 pub const MAX_EXPANDED: usize = 1_048_576;
 
-/// A list of bytes that is UTF-8. Contracts see the bytes.
+/// How many bytes a text has at most that takes no memory of its own: most names of files have no more.
+const INSIDE: usize = 24;
+
+/// A list of bytes that is UTF-8. A short one lies in the value itself. Contracts see the bytes.
 #[derive(Debug, Drop)]
 pub struct Text {
-    bytes: Bytes,
+    bytes: SmallVec<u8, INSIDE>,
 }
 
 impl Model for Text {
@@ -30,28 +34,35 @@ impl Model for Text {
 
     ghost Value = { List ℕ };
 
-    ghost view = { λ t. t.bytes };
+    ghost view = { λ t. t.bytes.items };
 
-    ghost invariant = { λ t. IsUtf8 t.bytes };
+    ghost invariant = { λ t. IsUtf8 t.bytes.items };
 }
 
 impl Text {
-    /// The text of these bytes, or `None` where they aren't UTF-8.
+    /// The text of these bytes, or `None` where they aren't UTF-8. Many bytes aren't copied.
     pub fn new(bytes: Bytes) -> Option<Text>
         ensures { MatchOption result (¬ IsUtf8 bytes) (λ text. (text ≡ bytes) × IsUtf8 bytes) }
     {
         match str::from_utf8(bytes.as_slice()) {
-            Ok(_) => Some(Text { bytes }),
+            Ok(_) => Some(Text::of_vec(bytes.into_vec())),
             Err(_) => None,
         }
     }
 
-    /// Takes the text over; nothing is copied.
+    /// Takes a text over; a long one isn't copied.
     pub fn from_string(text: String) -> Text
         ensures { result ≡ string_bytes text }
     {
+        Text::of_vec(text.into_bytes())
+    }
+
+    fn of_vec(bytes: Vec<u8>) -> Text
+        requires { IsUtf8 bytes.items }
+        ensures { result ≡ bytes.items }
+    {
         Text {
-            bytes: Bytes::new(text.into_bytes()),
+            bytes: SmallVec::from_vec(bytes),
         }
     }
 
@@ -59,15 +70,27 @@ impl Text {
     pub fn from_str(alloc: Global, text: &str) -> Result<Text, AllocError>
         ensures { IfOk result (λ copy. copy ≡ text.now) }
     {
-        let bytes = Bytes::new(Vec::from_slice(alloc, text.as_bytes())?);
-        Ok(Text { bytes })
+        Ok(Text {
+            bytes: SmallVec::from_slice(alloc, text.as_bytes())?,
+        })
     }
 
-    pub fn bytes(&self) -> &Bytes
+    /// A copy of these bytes, or `None` where they aren't UTF-8.
+    pub fn from_utf8(alloc: Global, bytes: &[u8]) -> Result<Option<Text>, AllocError>
+        ensures { IfOk result (λ found. MatchOption found (¬ IsUtf8 bytes.now)
+            (λ text. (text ≡ bytes.now) × IsUtf8 bytes.now)) }
+    {
+        match str::from_utf8(bytes) {
+            Ok(text) => Ok(Some(Text::from_str(alloc, text)?)),
+            Err(_) => Ok(None),
+        }
+    }
+
+    pub fn as_bytes(&self) -> &[u8]
         ensures bytes { result.now ≡ self.now }
         ensures utf8 { IsUtf8 self.now }
     {
-        &self.bytes
+        self.bytes.as_slice()
     }
 
     pub fn as_str(&self) -> &str
@@ -84,23 +107,13 @@ impl Text {
     {
         self.bytes.extend_from_slice(more.as_bytes())
     }
-
-    /// Gives the bytes back; nothing is copied.
-    pub fn into_bytes(self) -> Bytes
-        ensures bytes { result ≡ self }
-        ensures utf8 { IsUtf8 self }
-    {
-        self.bytes
-    }
 }
 
 impl Clone for Text {
     ghost is_clone = { λ text copy. copy ≡ text };
 
     fn clone(&self) -> Result<Text, AllocError> {
-        Ok(Text {
-            bytes: self.bytes.clone()?,
-        })
+        Text::from_str(*self.bytes.allocator(), self.as_str())
     }
 }
 

@@ -34,7 +34,7 @@ impl Say for () {
 
 impl Say for Text {
     fn say(&self, alloc: Global, words: &mut Words) {
-        words.put(alloc, self.bytes().as_slice())
+        words.put(alloc, self.as_bytes())
     }
 }
 

@@ -23,8 +23,21 @@ expand-returns-in_err-whole-in-Some g t c =
     (subst (λ (q : Part Content). GoesOn g.V.View.came g.V.View.same g.V.View.refusal c.args.view.now c.loop-rest.view from (q kept)) more c.loop-rest.invariant)
     (err_behind g.V.View.came g.V.View.same g.V.View.refusal c.loop-rest.view c.include.new.view on (inner c.in_ok-name-in-Some.name c.loop-rest.whole kept) (kept_of c.include.new.kept) _ c.in_err-whole-in-Some.ensures))
 
-pub expand-loop-rest-preserved-in-Some : goal.expand-loop-rest-preserved-in-Some
-expand-loop-rest-preserved-in-Some g t c =
+pub expand-loop-rest-preserved-in_ok-whole-in-Some : goal.expand-loop-rest-preserved-in_ok-whole-in-Some
+expand-loop-rest-preserved-in_ok-whole-in-Some g t c =
+    let inner = includes c.args.left in
+    let kept = kept_of c.loop-rest.kept in
+    let from = expands inner c.args.text.now c.args.front (lines_of c.args.content.now) (kept_of c.args.kept.now) in
+    let on : Content → Part Content = λ grown. expands inner c.args.text.now grown (lines_of c.first_line.result.1.now) in
+    let more = line-include inner c.args.text.now c.loop-rest.whole c.loop-rest.rest.now c.first_line.result.0.now c.first_line.result.1.now c.in-Some.name c.in_ok-name-in-Some.name c.first_line.ensures.cut
+    (sym c.in-Some.is ∙ c.in_ok-name.ensures ∙ ap included c.unended.ensures) c.in_ok-name-in-Some.ensures in
+    on_then g.V.View.came g.V.View.same g.V.View.refusal g.met.V.View.goes_on g.met.V.View.same_on c.args.view.now c.loop-rest.view c.include.new.view
+    from ((inner c.in_ok-name-in-Some.name c.loop-rest.whole >>= on) kept) (on c.in_ok-whole-in-Some.whole (kept_of c.include.new.kept))
+    (subst (λ (q : Part Content). GoesOn g.V.View.came g.V.View.same g.V.View.refusal c.args.view.now c.loop-rest.view from (q kept)) more c.loop-rest.invariant)
+    (on_behind g.V.View.came g.V.View.same g.V.View.refusal c.loop-rest.view c.include.new.view on (inner c.in_ok-name-in-Some.name c.loop-rest.whole kept) (gives c.in_ok-whole-in-Some.whole (kept_of c.include.new.kept)) c.in_ok-whole-in-Some.ensures)
+
+pub expand-loop-rest-preserved-in_ok-whole-in-Some-2 : goal.expand-loop-rest-preserved-in_ok-whole-in-Some-2
+expand-loop-rest-preserved-in_ok-whole-in-Some-2 g t c =
     let inner = includes c.args.left in
     let kept = kept_of c.loop-rest.kept in
     let from = expands inner c.args.text.now c.args.front (lines_of c.args.content.now) (kept_of c.args.kept.now) in

@@ -1,6 +1,9 @@
-use Rattle.std.proofs.Common.{rules}
+use Rattle.std.proofs.Common.{inl, inr, refl, rules}
 use Rattle.tup_ledger.specs.Begin.{Begins}
 use Rattle.tup_top.specs.Promise.{Lasts}
+use Rattle.tup_top.specs.Lines.{begun_line}
+use Rattle.tup_top.specs.Status.{status_of_begun}
+use Rattle.tup_top.proofs.Causes.{prints_nothing}
 use Rattle.tup_top.proofs.Begun.{begun_answered, begun_counts, failed, prints_begun}
 use Rattle.tup_top.proofs.init.init.Goals as goal
 
@@ -24,3 +27,13 @@ returns-in-Ok-clause-printed g c = λ shows.
 -- no memory for its line
 pub returns-in-Err-clause-counted_cause : goal.returns-in-Err-clause-counted_cause
 returns-in-Err-clause-counted_cause g c = failed (g.S.Site.faults c.args.site.now) (g.S.Site.faults c.begin.new.site) c.begin.result c.begin.ensures.cause
+
+pub returns-in-Err-clause-printed : goal.returns-in-Err-clause-printed
+returns-in-Err-clause-printed g c = λ _.
+    let count = g.K.Sink.faults c.args.out.now in
+    let status = status_of_begun c.begin.result in
+    record {
+      begun = c.begin.result;
+      ends = inr (inl refl);
+      prints = prints_nothing status (begun_line status) count count (g.K.Sink.held c.args.out.now);
+    }

@@ -1,7 +1,10 @@
-use Rattle.std.proofs.Common.{rules, inl, inr, ⊎_elim}
+use Rattle.std.proofs.Common.{rules, inl, inr, refl, ⊎_elim}
 use Rattle.std.specs.Result.{result_err}
 use Rattle.tup_compare.specs.Compared.{HasCompared, RunsToCompare}
 use Rattle.tup_compare.specs.Opened.{JustOpens}
+use Rattle.tup_top.specs.Lines.{compared_line}
+use Rattle.tup_top.specs.Status.{status_of_compared}
+use Rattle.tup_top.proofs.Causes.{prints_nothing}
 use Rattle.tup_top.proofs.Verified.{compared_answered, untold_compared, compared_counts, failed, prints_compared}
 use Rattle.tup_top.proofs.verify.verify.Goals as goal
 
@@ -50,3 +53,15 @@ returns-in-Err-clause-counted_cause g c =
 pub returns-in-Err-clause-ran : goal.returns-in-Err-clause-ran
 returns-in-Err-clause-ran g c = λ tells means shows.
     untold_compared g.R.Runner.next (g.S.Site.world c.args.site.now) _ _ (result_err c.compare_site.result) (c.compare_site.ensures.ran tells means shows)
+
+pub returns-in-Err-clause-printed : goal.returns-in-Err-clause-printed
+returns-in-Err-clause-printed g c = λ _.
+    let compared = c.compare_site in
+    let count = g.K.Sink.faults c.args.out.now in
+    let status = status_of_compared compared.result in
+    record {
+      compared = compared.result;
+      has = λ tells means. compared.ensures.compared tells means;
+      ends = inr (inl refl);
+      prints = prints_nothing status (compared_line status) count count (g.K.Sink.held c.args.out.now);
+    }

@@ -6,4 +6,4 @@ pub returns : goal.returns
 returns c =
     let count : c.in-Ok.length ≡ length c.args.self.now = search rules in
     let text : c.extend_from_slice.new.self ≡ c.write.new.bytes ++ c.args.self.now = search rules in
-    text_written c.args.self.now c.args.bytes.now c.write.new.bytes c.extend_from_slice.new.self c.in-Ok.length c.bytes.ensures.utf8 count c.in_ok-write.ensures.0 c.in_ok-write.ensures.1 text
+    text_written c.args.self.now c.args.bytes.now c.write.new.bytes c.extend_from_slice.new.self c.in-Ok.length c.as_bytes-text.ensures.utf8 count c.in_ok-write.ensures.0 c.in_ok-write.ensures.1 text
