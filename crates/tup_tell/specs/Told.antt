@@ -6,6 +6,8 @@ use Rattle.tup_tell.specs.declared.event.Event.TheVariants.{Read, Removed, Start
 use Rattle.tup_tell.specs.declared.reporter.TellFailed.{TellFailed}
 use Rattle.tup_tell.specs.declared.reporter.TellFailed.TheVariants as told
 use Rattle.tup_tell.specs.declared.sink.SinkFailed.{SinkFailed}
+use Rattle.tup_tell.specs.declared.tally.Kind.{Kind}
+use Rattle.tup_tell.specs.declared.tally.Kind.TheVariants as kind
 use Rattle.tup_tell.specs.declared.sink.SinkFailed.TheVariants as sink
 
 -- a reporter's count of faults rises where it answers Fault, and at no other answer
@@ -38,6 +40,13 @@ is_started other = false
 abbrev pub is_ended : Event → Bool
 is_ended (Ended rule verdict) = true
 is_ended other = false
+
+-- that an event is of a kind
+abbrev pub is_of : Kind → Event → Bool
+is_of kind.Read event = is_read event
+is_of kind.Removed event = is_removed event
+is_of kind.Started event = is_started event
+is_of kind.Ended event = is_ended event
 
 -- how many events of each kind there are
 abbrev pub counts_of : List Event → List ℕ

@@ -9,6 +9,15 @@ use crate::keep::Keep;
 use crate::reporter::{Reporter, TellFailed};
 use std::alloc::Global;
 
+/// What an event tells of.
+#[derive(Clone, Copy)]
+enum Kind {
+    Read,
+    Removed,
+    Started,
+    Ended,
+}
+
 /// A reporter that counts events by their kind. It never fails.
 #[derive(Drop)]
 pub struct Tally {
@@ -33,68 +42,37 @@ impl Tally {
     {
         let events = self.kept.told();
         [
-            reads(events),
-            removals(events),
-            starts(events),
-            ends(events),
+            count(events, Kind::Read),
+            count(events, Kind::Removed),
+            count(events, Kind::Started),
+            count(events, Kind::Ended),
         ]
     }
 }
 
-/// How many events tell of a folder that was read.
-fn reads(events: &[Event]) -> u64
-    ensures { result ≡ count_by specs.is_read events.now }
+/// How many events are of a kind.
+fn count(events: &[Event], kind: Kind) -> u64
+    ensures { result ≡ count_by (specs.is_of kind) events.now }
 {
-    let found = events.iter().filter(|event| is_read(event));
-    found.count() as u64
+    let mut found = 0;
+    for event in events {
+        if is_of(kind, event) {
+            found += 1;
+        }
+    }
+    found
 }
 
-/// How many tell of a file that was removed.
-fn removals(events: &[Event]) -> u64
-    ensures { result ≡ count_by specs.is_removed events.now }
+/// Whether an event is of a kind.
+fn is_of(kind: Kind, event: &Event) -> bool
+    ensures { result ≡ specs.is_of kind event.now }
 {
-    let found = events.iter().filter(|event| is_removed(event));
-    found.count() as u64
-}
-
-/// How many tell of a rule that was begun.
-fn starts(events: &[Event]) -> u64
-    ensures { result ≡ count_by specs.is_started events.now }
-{
-    let found = events.iter().filter(|event| is_started(event));
-    found.count() as u64
-}
-
-/// How many tell of a rule that came to its end.
-fn ends(events: &[Event]) -> u64
-    ensures { result ≡ count_by specs.is_ended events.now }
-{
-    let found = events.iter().filter(|event| is_ended(event));
-    found.count() as u64
-}
-
-fn is_read(event: &Event) -> bool
-    ensures { result ≡ specs.is_read event.now }
-{
-    matches!(event, Event::Read { .. })
-}
-
-fn is_removed(event: &Event) -> bool
-    ensures { result ≡ specs.is_removed event.now }
-{
-    matches!(event, Event::Removed { .. })
-}
-
-fn is_started(event: &Event) -> bool
-    ensures { result ≡ specs.is_started event.now }
-{
-    matches!(event, Event::Started { .. })
-}
-
-fn is_ended(event: &Event) -> bool
-    ensures { result ≡ specs.is_ended event.now }
-{
-    matches!(event, Event::Ended { .. })
+    match kind {
+        Kind::Read => matches!(event, Event::Read { .. }),
+        Kind::Removed => matches!(event, Event::Removed { .. }),
+        Kind::Started => matches!(event, Event::Started { .. }),
+        Kind::Ended => matches!(event, Event::Ended { .. }),
+    }
 }
 
 impl Reporter for Tally {
