@@ -10,6 +10,7 @@ use crate::disk::Disk;
 use crate::failure::{Operation, Refused};
 use crate::standing::{Seen, Standing};
 use std::alloc::Global;
+use std::collections::VecDeque;
 use std::fs::{DirEntry, File};
 use std::io::ErrorKind;
 use std::rt::Files;
@@ -20,7 +21,7 @@ use tup_path::{MAX_DEPTH, Path, PathFault, Text};
 #[derive(Drop)]
 struct Found {
     files: Vec<Path>,
-    folders: Vec<Path>,
+    folders: VecDeque<Path>,
 }
 
 impl<R: Files<File = File> + Clone + Drop> Disk<R> {
@@ -36,17 +37,19 @@ impl<R: Files<File = File> + Clone + Drop> Disk<R> {
         Ok(files)
     }
 
-    // From the top down, one folder after another.
+    // From the top down, those of one depth after those above. So the files of each depth come in the order of paths, and
+    // sorting all of them takes few comparisons.
     fn walk(&self, seen: &mut Seen) -> Result<Found, Refused>
         ensures cause { IfErr result (λ refused. (refused ≡ Memory)
             ⊎ IsUnlisted (string_bytes self.now.root) refused) }
     {
         let mut found = Found {
             files: Vec::new(self.alloc),
-            folders: vec![in self.alloc; Path::top(self.alloc)]?,
+            folders: VecDeque::new(self.alloc),
         };
+        found.folders.push_back(Path::top(self.alloc))?;
         for _ in 0..u64::MAX {
-            let Some(folder) = found.folders.pop() else {
+            let Some(folder) = found.folders.pop_front() else {
                 break;
             };
             self.look_in(seen, &folder, &mut found)?;
@@ -54,13 +57,15 @@ impl<R: Files<File = File> + Clone + Drop> Disk<R> {
         Ok(found)
     }
 
-    // Sorts in what stands in a folder, which is seen now.
+    // Sorts in what stands in a folder, in the order of names. The folder is seen now.
     fn look_in(&self, seen: &mut Seen, folder: &Path, found: &mut Found) -> Result<(), Refused>
         ensures cause { IfErr result (λ refused. (refused ≡ Memory)
             ⊎ IsUnlisted (string_bytes self.now.root) refused) }
     {
         let place = self.place(folder.names())?;
-        for name in self.names_in(place.as_str())? {
+        let mut names = self.names_in(place.as_str())?;
+        names.sort()?;
+        for name in names {
             self.sort_in(folder, &name, found)?;
         }
         seen.folders.insert(place)?;
@@ -86,7 +91,7 @@ impl<R: Files<File = File> + Clone + Drop> Disk<R> {
         let place = self.place(path.names())?;
         match self.found_at(place.as_str())? {
             Standing::File { .. } => found.files.push(path)?,
-            Standing::Folder if path.depth() < MAX_DEPTH => found.folders.push(path)?,
+            Standing::Folder if path.depth() < MAX_DEPTH => found.folders.push_back(path)?,
             Standing::Link | Standing::Other if is_read_by_name(name) => {
                 return Err(self.in_the_way(place.as_str()));
             }
