@@ -131,7 +131,7 @@ impl PartialEq for Text {
     ghost laws = { Prim.search (comparing, rules) };
 
     fn eq(&self, other: &Text) -> bool {
-        self.bytes == other.bytes
+        self.as_str() == other.as_str()
     }
 }
 
@@ -170,6 +170,6 @@ impl Ord for Text {
     ghost matches_eq = { Prim.search (comparing, rules) };
 
     fn cmp(&self, other: &Text) -> Ordering {
-        self.bytes.cmp(&other.bytes)
+        self.as_str().cmp(other.as_str())
     }
 }
