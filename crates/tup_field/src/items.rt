@@ -2,13 +2,13 @@
 ghost use Rattle.std.specs.Prelude.{◌≡◌, ◌⊎◌, ◌++◌, MatchResult};
 ghost use Rattle.std.specs.List.{flat_map, AllByRecursion};
 ghost use Rattle.tup_field.specs.Format.{IsUnwritten};
-ghost use Rattle.tup_field.specs.Parts.{many_at};
+ghost use Rattle.tup_field.specs.Parts.{list, many_at};
 
 use crate::fault::RecordFault;
 use crate::field::Field;
 use crate::reader::Reader;
 use std::alloc::Global;
-use tup_path::{Bytes, Items};
+use tup_path::{Bytes, Items, Shared};
 
 impl<T: Field> Field for Items<T> {
     ghost use Rattle.tup_field.specs.Parts.{list};
@@ -19,17 +19,45 @@ impl<T: Field> Field for Items<T> {
     ghost exact = { list-exact T.format T.exact };
 
     fn write(&self, bytes: &mut Bytes) -> Result<(), RecordFault> {
-        let Ok(count) = u32::try_from(self.len()) else {
-            return Err(RecordFault::BadField);
-        };
-        count.write(bytes)?;
-        write_all(self.as_slice(), bytes)
+        write_list(self.as_slice(), bytes)
     }
 
     fn read(alloc: Global, reader: &mut Reader<'_>) -> Result<Items<T>, RecordFault> {
         let count = u32::read(alloc, reader)?;
         read_all(alloc, count, reader)
     }
+}
+
+impl<T: Field> Field for Shared<T> {
+    ghost use Rattle.tup_field.specs.Parts.{list};
+    ghost use Rattle.tup_field.specs.PartsLaws.{list-exact};
+
+    ghost format = { list T.format };
+
+    ghost exact = { list-exact T.format T.exact };
+
+    fn write(&self, bytes: &mut Bytes) -> Result<(), RecordFault> {
+        write_list(self.as_slice(), bytes)
+    }
+
+    fn read(alloc: Global, reader: &mut Reader<'_>) -> Result<Shared<T>, RecordFault> {
+        let items = Items::<T>::read(alloc, reader)?;
+        Ok(Shared::new(items)?)
+    }
+}
+
+/// Puts the number of some items and their spellings behind the bytes.
+fn write_list<T: Field>(items: &[T], bytes: &mut Bytes) -> Result<(), RecordFault>
+    ensures { MatchResult result
+        (λ _. (list T.format).Fits items.now
+        × (bytes.new ≡ bytes.old ++ (list T.format).spelling items.now))
+        (IsUnwritten ((list T.format).Fits items.now)) }
+{
+    let Ok(count) = u32::try_from(items.len()) else {
+        return Err(RecordFault::BadField);
+    };
+    count.write(bytes)?;
+    write_all(items, bytes)
 }
 
 /// Puts the spellings of all items behind the bytes.

@@ -3,8 +3,8 @@ use crate::fault::RecordFault;
 use crate::field::Field;
 use crate::reader::Reader;
 use std::alloc::Global;
-use tup_path::Bytes;
-use tup_rule::{Drafts, Questions, Reading};
+use tup_path::{Bytes, Shared};
+use tup_rule::{Draft, Noted, Question, Reading};
 
 impl Field for Reading {
     ghost use Rattle.tup_field.specs.Rules.{reading};
@@ -20,8 +20,8 @@ impl Field for Reading {
     }
 
     fn read(alloc: Global, reader: &mut Reader<'_>) -> Result<Reading, RecordFault> {
-        let asked = Questions::read(alloc, reader)?;
-        let drafts = Drafts::read(alloc, reader)?;
+        let asked = Shared::<(Question, Noted)>::read(alloc, reader)?;
+        let drafts = Shared::<Draft>::read(alloc, reader)?;
         Ok(Reading { drafts, asked })
     }
 }

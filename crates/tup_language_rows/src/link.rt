@@ -4,7 +4,7 @@ use crate::project::Project;
 use std::alloc::Global;
 use std::fs::Files;
 use std::io;
-use tup_link::{LinkFault, RuleNames, What, link};
+use tup_link::{LinkFault, RuleNames, What};
 use tup_path::Paths;
 use tup_rows::{Answers, RowFault, Words, set, try_file_by};
 use tup_rule::{GroupRef, Rule};
@@ -71,7 +71,7 @@ impl Linking {
 
     /// How many rules there are, or the refusal.
     fn link(&self, alloc: Global) -> Words {
-        match link(alloc, self.project.readings()) {
+        match self.project.link(alloc) {
             Ok(rules) => Words::shown(alloc, &rules.len()),
             Err(fault) => refused(alloc, &fault),
         }
@@ -80,7 +80,7 @@ impl Linking {
     /// The rule at a place, or the refusal.
     fn rule(&self, alloc: Global, said: &Words) -> Words {
         let at = said.number_at(0);
-        match link(alloc, self.project.readings()) {
+        match self.project.link(alloc) {
             Ok(rules) => shown_at(alloc, rules.as_slice(), at),
             Err(fault) => refused(alloc, &fault),
         }

@@ -1,42 +1,50 @@
 //! The project that rows give.
 use crate::draft::{bare, numbered, pieces_of, tops};
-use std::alloc::Global;
+use std::alloc::{AllocError, Global};
+use tup_link::{LinkFault, link};
 use tup_path::{Items, Path};
 use tup_rows::{RowFault, Words, set};
-use tup_rule::{Draft, Reading};
+use tup_rule::{Draft, Drafts, Reading, Rules};
 
-/// The readings of the rows so far.
+/// The drafts of the rows so far, by the folders that they are read in.
 #[derive(Drop)]
 pub(crate) struct Project {
-    readings: Vec<(Path, Reading)>,
+    folders: Vec<(Path, Drafts)>,
 }
 
 impl Project {
     pub(crate) fn new(alloc: Global) -> Project {
         Project {
-            readings: Vec::new(alloc),
+            folders: Vec::new(alloc),
         }
     }
 
-    pub(crate) fn readings(&self) -> &[(Path, Reading)] {
-        &self.readings
+    /// The rules of the project.
+    pub(crate) fn link(&self, alloc: Global) -> Result<Rules, LinkFault> {
+        let readings = self.readings(alloc)?;
+        link(alloc, &readings)
+    }
+
+    fn readings(&self, alloc: Global) -> Result<Vec<(Path, Reading)>, AllocError> {
+        let mut readings = Vec::new(alloc);
+        for (dir, drafts) in &self.folders {
+            let reading = Reading::new(drafts.clone()?, Items::new(alloc))?;
+            readings.push((dir.clone()?, reading))?;
+        }
+        Ok(readings)
     }
 
     /// Begins the reading of a folder.
     pub(crate) fn begin(&mut self, alloc: Global, said: &Words, dir: Path) {
-        let reading = Reading {
-            drafts: Items::new(alloc),
-            asked: Items::new(alloc),
-        };
-        if self.readings.push((dir, reading)).is_err() {
+        if self.folders.push((dir, Items::new(alloc))).is_err() {
             said.fail(RowFault::Memory);
         }
     }
 
     /// Adds a draft to the last reading.
     pub(crate) fn add(&mut self, said: &Words, draft: Draft) {
-        match self.readings.last_mut() {
-            Some((_, reading)) => said.list(&mut reading.drafts, draft),
+        match self.folders.last_mut() {
+            Some((_, drafts)) => said.list(drafts, draft),
             None => said.fail(RowFault::OtherKind),
         }
     }

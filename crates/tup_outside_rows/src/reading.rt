@@ -2,7 +2,7 @@
 use std::alloc::Global;
 use tup_path::{Bytes, Items, Path};
 use tup_rows::{RowFault, Words, set};
-use tup_rule::{Draft, GroupRef, Kind, Noted, Piece, Question, Reading, Told};
+use tup_rule::{Draft, Drafts, GroupRef, Kind, Noted, Piece, Question, Questions, Reading, Told};
 use tup_stamp::hex;
 
 pub(crate) fn answer(alloc: Global, call: &str, said: &Words) -> Words {
@@ -82,18 +82,23 @@ fn note(alloc: Global, noted: &Noted) -> Words {
 
 /// A copy of the reading that left a draft with these pieces, and asked whether its file stands.
 fn copied(alloc: Global, said: &Words) -> Words {
-    let mut reading = Reading {
-        drafts: Items::new(alloc),
-        asked: Items::new(alloc),
-    };
-    fill(alloc, &mut reading, said);
-    copied_reading(alloc, &reading)
+    match Reading::new(one_draft(alloc, said), one_asked(alloc, said)) {
+        Ok(reading) => copied_reading(alloc, &reading),
+        Err(_) => Words::none(alloc, RowFault::Memory),
+    }
 }
 
-fn fill(alloc: Global, reading: &mut Reading, said: &Words) {
-    said.list(&mut reading.drafts, draft(alloc, said));
+fn one_draft(alloc: Global, said: &Words) -> Drafts {
+    let mut drafts = Drafts::new(alloc);
+    said.list(&mut drafts, draft(alloc, said));
+    drafts
+}
+
+fn one_asked(alloc: Global, said: &Words) -> Questions {
+    let mut asked = Questions::new(alloc);
     let question = Question::Kind(said.path_at(alloc, 0));
-    said.list(&mut reading.asked, (question, Noted::Kind(Kind::File)));
+    said.list(&mut asked, (question, Noted::Kind(Kind::File)));
+    asked
 }
 
 fn copied_reading(alloc: Global, reading: &Reading) -> Words {

@@ -11,6 +11,7 @@ mod fault;
 mod items;
 mod name;
 mod path;
+mod shared;
 mod show;
 mod text;
 
@@ -19,5 +20,6 @@ pub use bytes::Bytes;
 pub use fault::PathFault;
 pub use items::{Files, Items, Paths, Texts};
 pub use path::{MAX_DEPTH, MAX_NAME, Path};
+pub use shared::Shared;
 pub use show::shown_reads_back;
 pub use text::{MAX_EXPANDED, Text};

@@ -1,10 +1,10 @@
 //! What the reading of a Tupfile asks about the project, and what it is told.
-ghost use Rattle.std.specs.Prelude.{◌≡◌};
+ghost use Rattle.std.specs.Prelude.{◌≡◌, IfOk};
 ghost use Rattle.tup_rule.specs.Question.{noted};
 
-use crate::draft::Drafts;
+use crate::draft::{Draft, Drafts};
 use std::alloc::AllocError;
-use tup_path::{Bytes, Items, Path, Text, Texts};
+use tup_path::{Bytes, Items, Path, Shared, Text, Texts};
 use tup_stamp::{Stamp, stamp_of};
 
 /// What stands at a path.
@@ -115,13 +115,25 @@ impl Told {
 /// Questions with what was told, in the order of their first asking.
 pub type Questions = Items<(Question, Noted)>;
 
-/// What the reading of one folder's Tupfile leaves.
+/// What the reading of one folder's Tupfile leaves. A copy of it shares both lists.
 #[derive(Drop, PartialEq, Eq)]
 pub struct Reading {
     /// Its rules, in the order of their lines.
-    pub drafts: Drafts,
+    pub drafts: Shared<Draft>,
     /// What it asked, each question once, and what it was told.
-    pub asked: Questions,
+    pub asked: Shared<(Question, Noted)>,
+}
+
+impl Reading {
+    /// The reading that left these rules and asked this.
+    pub fn new(drafts: Drafts, asked: Questions) -> Result<Reading, AllocError>
+        ensures drafts { IfOk result (λ reading. reading.drafts ≡ drafts) }
+        ensures asked { IfOk result (λ reading. reading.asked ≡ asked) }
+    {
+        let drafts = Shared::new(drafts)?;
+        let asked = Shared::new(asked)?;
+        Ok(Reading { drafts, asked })
+    }
 }
 
 impl Clone for Reading {

@@ -1,6 +1,6 @@
 //! Values in words.
 use std::alloc::Global;
-use tup_path::{Items, Path, Text};
+use tup_path::{Items, Path, Shared, Text};
 use tup_rows::Words;
 use tup_stamp::{Stamp, hex};
 
@@ -61,10 +61,21 @@ impl<T: Say> Say for Option<T> {
 
 impl<T: Say> Say for Items<T> {
     fn say(&self, alloc: Global, words: &mut Words) {
-        words.show(alloc, &self.len());
-        for item in self.as_slice() {
-            item.say(alloc, words);
-        }
+        say_all(alloc, words, self.as_slice())
+    }
+}
+
+impl<T: Say> Say for Shared<T> {
+    fn say(&self, alloc: Global, words: &mut Words) {
+        say_all(alloc, words, self.as_slice())
+    }
+}
+
+/// Adds how many values there are, and the words of each.
+fn say_all<T: Say>(alloc: Global, words: &mut Words, items: &[T]) {
+    words.show(alloc, &items.len());
+    for item in items {
+        item.say(alloc, words);
     }
 }
 

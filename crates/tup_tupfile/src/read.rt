@@ -1,15 +1,16 @@
 //! The call that reads a folder's Tupfile.
-ghost use Rattle.std.specs.Prelude.{◌≡◌, false, IsTrue, List, is_some};
+ghost use Rattle.std.specs.Prelude.{◌≡◌, false, IfOk, IsTrue, List, is_some};
 ghost use Rattle.tup_rule.specs.declared.question.Question.{Question};
 ghost use Rattle.tup_tupfile.specs.Read.{IsReading, IsToldBy, Agrees, AsksOnce};
 ghost use Rattle.tup_tupfile.specs.Reading.{reading};
+ghost use Rattle.tup_query.specs.Log.{noted_log};
 ghost use Rattle.tup_query.specs.Went.{AskedAre, is_stopped};
 
 use crate::reading::drafts_of;
-use std::alloc::Global;
+use std::alloc::{AllocError, Global};
 use tup_path::Path;
 use tup_query::{Env, Log, ReadEnd};
-use tup_rule::Reading;
+use tup_rule::{Drafts, Reading};
 
 /// The reading of a folder's Tupfile: its rules, and what it asked, each question once in the order
 /// of first asking.
@@ -32,6 +33,15 @@ pub fn read_tupfile<E: Env>(alloc: Global, dir: &Path, env: &mut E) -> Result<Re
 {
     let mut log = Log::new(alloc);
     let drafts = drafts_of(alloc, env, &mut log, dir)?;
+    let reading = kept(alloc, drafts, log)?;
+    Ok(reading)
+}
+
+/// The reading that left these rules, with what it asked.
+fn kept(alloc: Global, drafts: Drafts, log: Log) -> Result<Reading, AllocError>
+    ensures drafts { IfOk result (λ reading. reading.drafts ≡ drafts) }
+    ensures asked { IfOk result (λ reading. reading.asked ≡ noted_log log) }
+{
     let asked = log.noted(alloc)?;
-    Ok(Reading { drafts, asked })
+    Reading::new(drafts, asked)
 }
