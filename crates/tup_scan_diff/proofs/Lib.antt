@@ -4,6 +4,7 @@ pub mod Paths
 pub mod Indexed
 pub mod Named
 pub mod Answered
+pub mod Beside
 pub mod Staled
 pub mod Editing
 pub mod Making

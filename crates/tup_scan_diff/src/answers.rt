@@ -1,9 +1,9 @@
 //! Whether what a reading was told is still so.
-ghost use Rattle.std.specs.Prelude.{◌≡◌, ◌++◌, ◌∷◌, [], Option, IfOk, IfErr};
+ghost use Rattle.std.specs.Prelude.{◌≡◌, ◌++◌, ◌∷◌, [], Option, IfOk, IfErr, IsTrue};
 ghost use Rattle.std.specs.Bool.{Decides};
 ghost use Rattle.tup_path.specs.Name.{Names, Content};
 ghost use Rattle.tup_rule.specs.declared.question.Question.TheVariants as asks;
-ghost use Rattle.tup_graph.specs.Answers.{IsKind, IsMadeElsewhere, IsOutputOf};
+ghost use Rattle.tup_graph.specs.Answers.{IsKind, IsMadeElsewhere, IsOutputOf, IsSource};
 ghost use Rattle.tup_graph.specs.Graph.{source};
 ghost use Rattle.tup_scan_diff.specs.Present.{IsPresent, IsWhole, graph_of};
 ghost use Rattle.tup_scan_diff.specs.Told.{AreNames, AreToldSo, IsToldOtherwise, IsToldSo, Tells};
@@ -160,6 +160,9 @@ impl Present<'_> {
             self.now.nodes.now.readings reader.now path.now) }
         ensures memory { IfErr result (λ fault. fault ≡ GraphFault.Memory) }
     {
+        if self.is_beside(reader, path) {
+            return Ok(Kind::File);
+        }
         if self.source(path).is_some() {
             return Ok(Kind::File);
         }
@@ -170,6 +173,21 @@ impl Present<'_> {
             return Ok(Kind::File);
         }
         Ok(Kind::Nothing)
+    }
+
+    /// Whether a path is found among the sources of the folder that is read. Most answers are about these, and a look among the
+    /// names of one folder is shorter than one among all files. Where it isn't found it may be a source all the same.
+    fn is_beside(&self, reader: &Path, path: &Path) -> bool
+        requires present { IsWhole self.now }
+        ensures { IsTrue result → IsSource (source (graph_of self.now)) path.now }
+    {
+        let Some((name, folder)) = path.names().split_last() else {
+            return false;
+        };
+        if folder != reader.names() {
+            return false;
+        }
+        self.index.names.of(reader).binary_search(name).is_ok()
     }
 
     /// Whether a path is an output of the reading of its folder, which is another one than the one that is read.
