@@ -77,7 +77,25 @@ fn read_names(alloc: Global, depth: u8, reader: &mut Reader<'_>) -> Result<Path,
         (λ fault. (fault ≡ RecordFault.Memory)
         ⊎ (many_at formats.name.reading depth reader.old ≡ Err fault)) }
 {
-    let mut path = Path::top(alloc);
+    let top = Path::with_room(alloc, depth as usize)?;
+    read_all_below(alloc, top, depth, reader)
+}
+
+/// Reads so many names from the top down, which is given with room for them.
+fn read_all_below(
+    alloc: Global,
+    top: Path,
+    depth: u8,
+    reader: &mut Reader<'_>,
+) -> Result<Path, RecordFault>
+    requires few { depth ≤ 32 }
+    requires top { top ≡ [] }
+    ensures { MatchResult result
+        (λ path. many_at formats.name.reading depth reader.old ≡ Ok (path, reader.new))
+        (λ fault. (fault ≡ RecordFault.Memory)
+        ⊎ (many_at formats.name.reading depth reader.old ≡ Err fault)) }
+{
+    let mut path = top;
     for _ in 0..depth {
         path = read_below(alloc, path, reader)?;
     }

@@ -57,6 +57,15 @@ impl Path {
         }
     }
 
+    /// The top directory, with room for so many names.
+    pub fn with_room(alloc: Global, names: usize) -> Result<Path, AllocError>
+        ensures { IfOk result (λ path. path ≡ []) }
+    {
+        Ok(Path {
+            names: Vec::with_capacity(alloc, names)?,
+        })
+    }
+
     /// The path that a text names from a folder. The text is cut at its slashes: an empty part and
     /// `.` stay, `..` goes up, and each other part goes down.
     ///
@@ -81,7 +90,7 @@ impl Path {
     pub fn join(&self, alloc: Global, name: &Text) -> Result<Path, PathFault>
         ensures { GivesUnless result PathFault.Memory (below self.now name.now) }
     {
-        let mut path = self.copy(alloc)?;
+        let mut path = self.copy_with_room(alloc)?;
         path.push(alloc, name.as_str())?;
         Ok(path)
     }
@@ -125,6 +134,15 @@ impl Path {
         Ok(Path {
             names: Vec::from_clones(alloc, &self.names)?,
         })
+    }
+
+    // The same path once more, with room for one name more.
+    fn copy_with_room(&self, alloc: Global) -> Result<Path, PathFault>
+        ensures { GivesUnless result PathFault.Memory (Ok self.now) }
+    {
+        let mut names = Vec::with_capacity(alloc, self.names.len().saturating_add(1))?;
+        names.extend_with_clones(&self.names)?;
+        Ok(Path { names })
     }
 
     /// The names from the top down.

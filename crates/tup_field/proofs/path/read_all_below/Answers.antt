@@ -1,5 +1,5 @@
 use Rattle.tup_field.proofs.Names.{read_more}
-use Rattle.tup_field.proofs.path.read_names.Goals as goal
+use Rattle.tup_field.proofs.path.read_all_below.Goals as goal
 
 pub loop-preserved : goal.loop-preserved
 loop-preserved c =
