@@ -4,14 +4,16 @@ use Rattle.std.proofs.Common.{refl, sym, ap, subst, ◌∙◌, inl, inr}
 use Rattle.std.specs.Ordering.{eq_by_cmp}
 use Rattle.std.proofs.lemmas.List.Elements.{Contains-push, Contains-push_cases, Contains-append_left}
 use Rattle.tup_path.specs.Name.{Names}
-use Rattle.tup_path.specs.Order.{by_names, same_path}
+use Rattle.tup_path.specs.Order.{by_names, same_path, same_path-by_names}
 use Rattle.tup_path.proofs.Same.{same_path-decides, by_names-decides}
 use Rattle.tup_closure.specs.Grows.{Grows}
-use Rattle.tup_closure.specs.Lists.{list_of, IsListed}
+use Rattle.std.specs.BTreeMap.{BTreeMap}
+use Rattle.std.specs.Prelude.{None, option_map}
+use Rattle.tup_closure.specs.Lists.{last_of, list_beside, list_in, list_of, IsListed}
 use Rattle.tup_closure.specs.declared.lists.Lists.{Lists}
 
 -- the test of the map is the test of paths, the other way round
-same_key : (path q : Names) → eq_by_cmp by_names path q ≡ same_path q path
+pub same_key : (path q : Names) → eq_by_cmp by_names path q ≡ same_path q path
 same_key path q = both (eq_by_cmp by_names path q) (same_path q path)
     (λ e. (same_path-decides q path).1 (sym ((by_names-decides path q).0 e))) (λ e. (by_names-decides path q).1 (sym ((same_path-decides q path).0 e)))
   where
@@ -19,6 +21,10 @@ same_key path q = both (eq_by_cmp by_names path q) (same_path q path)
     both true b to from = sym (to refl)
     both false true to from = from refl
     both false false to from = refl
+
+-- two paths are the same, or not, whichever comes first
+pub flipped : (x y : Names) → same_path x y ≡ same_path y x
+flipped x y = same_path-by_names x y ∙ same_key x y
 
 module _ {V : Type 0} where
   -- the list at a path once that of another was written
@@ -31,14 +37,41 @@ module _ {V : Type 0} where
       either true = refl
       either false = refl
 
-  -- a list that was written is the one of its path with a value more
-  pub list_pushed : (path q : Names) (value : V) (at other longer : List V) → (q ≡ path → other ≡ at) → longer ≡ at ++ value ∷ [] →
-      (if same_path q path then longer else other) ≡ (if same_path q path then other ++ value ∷ [] else other)
-  list_pushed path q value at other longer same is = either (same_path q path) refl
+  -- a list beside a map with a value more
+  beside_pushed : (path q : Names) (list : List V) (map : BTreeMap Names (List V)) (value : V)
+      → list_beside (Some (path, list ++ value ∷ [])) map q ≡ (if same_path q path then list_beside (Some (path, list)) map q ++ value ∷ [] else list_beside (Some (path, list)) map q)
+  beside_pushed path q list map value = either (same_path q path)
     where
-      either : (b : Bool) → same_path q path ≡ b → (if b then longer else other) ≡ (if b then other ++ value ∷ [] else other)
-      either true e = is ∙ ap (λ (l : List V). l ++ value ∷ []) (sym (same ((same_path-decides q path).0 e)))
-      either false e = refl
+      either : (b : Bool) → (if b then list ++ value ∷ [] else list_in map q) ≡ (if b then (if b then list else list_in map q) ++ value ∷ [] else (if b then list else list_in map q))
+      either true = refl
+      either false = refl
+
+  same_last : (known path : Names) → Some known ≡ Some path → known ≡ path
+  same_last known path e = cc
+
+  -- the list of the last path with a value more
+  pub last_pushed : (lists : Lists V) (known path : Names) (list longer : List V) (value : V) → Some (known, list) ≡ lists.last → last_of lists ≡ Some path → longer ≡ list ++ value ∷ [] → (q : Names)
+      → list_beside (Some (known, longer)) lists.map q ≡ (if same_path q path then list_of lists q ++ value ∷ [] else list_of lists q)
+  last_pushed lists known path list longer value here last is q =
+      ap (λ (l : List V). list_beside (Some (known, l)) lists.map q) is ∙ beside_pushed known q list lists.map value
+      ∙ ap (λ (o : Option (Names × List V)). if same_path q known then list_beside o lists.map q ++ value ∷ [] else list_beside o lists.map q) here
+      ∙ ap (λ (p : Names). if same_path q p then list_of lists q ++ value ∷ [] else list_of lists q) (same_last known path (ap (option_map (λ (one : Names × List V). one.0)) here ∙ last))
+
+  -- a path's list is taken out of a map and stands beside it
+  pub turned : (path q : Names) (list : List V) (last : Option (Names × List V)) (map : BTreeMap Names (List V)) (before : Names → List V) → last ≡ None → list ≡ before path
+      → ((p : Names) → same_path p path ≡ false → list_beside last map p ≡ before p) → list_beside (Some (path, list)) map q ≡ before q
+  turned path q list last map before none here others = either (same_path q path) refl
+    where
+      either : (b : Bool) → same_path q path ≡ b → (if b then list else list_in map q) ≡ before q
+      either true e = here ∙ ap before (sym ((same_path-decides q path).0 e))
+      either false e = sym (ap (λ (o : Option (Names × List V)). list_beside o map q) none) ∙ others q e
+
+  -- the list beside a map is that of its path, and of no other
+  pub beside_here : (known path : Names) (list : List V) (map : BTreeMap Names (List V)) → same_path path known ≡ true → list_beside (Some (known, list)) map path ≡ list
+  beside_here known path list map same = ap (λ b. if b then list else list_in map path) same
+
+  pub beside_other : (known path : Names) (list : List V) (map : BTreeMap Names (List V)) → same_path path known ≡ false → list_beside (Some (known, list)) map path ≡ list_in map path
+  beside_other known path list map apart = ap (λ b. if b then list else list_in map path) apart
 
   module _ (old new : Lists V) (path : Names) (value : V) (is : (q : Names) → list_of new q ≡ (if same_path q path then list_of old q ++ value ∷ [] else list_of old q)) where
     abbrev by : Names → Bool → List V

@@ -1,5 +1,5 @@
 -- Indexes of files, one file after another.
-use Rattle.std.specs.Prelude.{◌≡◌, ◌⊎◌, ◌↔◌, ◌+◌, ◌<◌, Bool, true, false, List, ℕ, [], ◌∷◌, ◌++◌, Contains, map, codes, length, cond, None, is_some}
+use Rattle.std.specs.Prelude.{◌≡◌, ◌⊎◌, ◌↔◌, ◌+◌, ◌<◌, Bool, true, false, List, ℕ, [], ◌∷◌, ◌++◌, Contains, map, codes, length, cond, Option, None, Some, IfSome, ◌≢◌, is_some}
 use Rattle.std.proofs.Common.{refl, sym, ap, subst, ◌∙◌, inl, inr, take, get_or, arith}
 use Rattle.std.specs.BTreeSet.{BTreeSet, contains}
 use Rattle.std.specs.Ordering.{eq_by_cmp}
@@ -17,12 +17,12 @@ use Rattle.tup_stamp.specs.declared.Stamp.{Stamp}
 use Rattle.tup_graph.specs.Answers.{tupfile, IsSource}
 use Rattle.tup_graph.specs.Graph.{GraphState, is_owned, source}
 use Rattle.tup_closure.specs.Grows.{Grows}
-use Rattle.tup_closure.specs.Lists.{list_of, IsListed}
+use Rattle.tup_closure.specs.Lists.{last_of, list_of, IsListed}
 use Rattle.tup_closure.specs.declared.lists.Lists.{Lists}
 use Rattle.tup_closure.proofs.Asked.{taken}
 use Rattle.tup_closure.proofs.Growing.{grows_on, grows_as, grows_nothing}
 use Rattle.tup_closure.proofs.Members.{in_empty, in_list, listed}
-use Rattle.tup_scan_diff.specs.Index.{AddsFile, HasBelow, HasTupfile, IsAddedIf, IsClosed, IsIndexOf, IsSourceAmong}
+use Rattle.tup_scan_diff.specs.Index.{AddsFile, HasBelow, HasTupfile, IsAddedIf, IsBeside, IsClosed, IsIndexOf, IsSourceAmong}
 use Rattle.tup_scan_diff.specs.Present.{seeing}
 use Rattle.tup_scan_diff.specs.Sets.{Has}
 use Rattle.tup_scan_diff.specs.declared.index.Index.{Index}
@@ -204,6 +204,11 @@ top_added path index top = record {
   tupfiles = grows_nothing (λ dir is. not_the_top path dir (codes "Tupfile") top is);
   folders = none_above path top;
 }
+
+-- a path's name beside the file that was added last
+pub beside_so : (index : Index) (path dir : Names) (found : Option (List ℕ)) → last_of index.names ≡ Some dir → IfSome found (λ name. (path ≡ dir ++ name ∷ []) × (name ≢ codes "Tupfile")) → IfSome found (IsBeside index path)
+beside_so index path dir None last is = tt
+beside_so index path dir (Some name) last is = record { dir = dir; last = last; parts = is.0; other = is.1 }
 
 module _ (path : Names) (old mid new : Index) (same_names : mid.names ≡ old.names) (same_tupfiles : mid.tupfiles ≡ old.tupfiles) (folders : Grows (λ d. IsBelow d path) (HasBelow old) (HasBelow mid)) where
   module _ (dir : Names) (name : List ℕ) (is : path ≡ dir ++ name ∷ []) where

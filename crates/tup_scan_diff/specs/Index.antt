@@ -1,5 +1,5 @@
 -- Paths by their folders (own).
-use Rattle.std.specs.Prelude.{◌≡◌, ◌↔◌, Bool, true, false, Option, None, Some, List, ℕ, [], ◌∷◌, ◌++◌, Contains, map}
+use Rattle.std.specs.Prelude.{◌≡◌, ◌≢◌, ◌↔◌, Bool, true, false, Option, None, Some, List, ℕ, [], ◌∷◌, ◌++◌, Contains, IfSome, codes, map}
 use Rattle.std.specs.BTreeSet.{BTreeSet}
 use Rattle.tup_path.specs.Name.{Names}
 use Rattle.tup_path.specs.Order.{by_names}
@@ -8,7 +8,7 @@ use Rattle.tup_stamp.specs.declared.Stamp.{Stamp}
 use Rattle.tup_graph.specs.Answers.{tupfile}
 use Rattle.tup_graph.specs.Graph.{GraphState, is_owned}
 use Rattle.tup_closure.specs.Grows.{Grows}
-use Rattle.tup_closure.specs.Lists.{IsListed}
+use Rattle.tup_closure.specs.Lists.{IsListed, last_of}
 use Rattle.tup_scan_diff.specs.Sets.{Has}
 use Rattle.tup_scan_diff.specs.declared.index.Index.{Index}
 
@@ -19,6 +19,17 @@ HasTupfile index dir = Has by_names index.tupfiles dir
 -- a folder has a file below it there
 abbrev pub HasBelow : Index → Names → Type 0
 HasBelow index dir = Has by_names index.folders dir
+
+-- the folder of the file that was added last, if there is one, is among those that have a file below them
+abbrev pub HasLast : Index → Type 0
+HasLast index = IfSome (last_of index.names) (HasBelow index)
+
+-- a path in the folder of the file that was added last, by its name there, which isn't that of a Tupfile
+pub record IsBeside (index : Index) (path : Names) (name : List ℕ) : Type 0 where
+  pub dir : Names
+  pub last : last_of index.names ≡ Some dir
+  pub parts : path ≡ dir ++ name ∷ []
+  pub other : name ≢ codes "Tupfile"
 
 -- an index of these files: the names of those in each folder, the folders that have a Tupfile, and those that have a file
 -- below them

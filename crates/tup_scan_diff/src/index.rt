@@ -1,13 +1,14 @@
 //! The sources by their folders.
-ghost use Rattle.std.specs.Prelude.{◌≡◌, ◌++◌, ◌∷◌, [], ℕ, List, IfOk, IfErr, OnOk, codes};
+ghost use Rattle.std.specs.Prelude.{◌≡◌, ◌≢◌, ◌++◌, ◌∷◌, [], ℕ, List, Some, IfOk, IfErr, IfSome, OnOk, codes};
+ghost use Rattle.std.specs.Option.{option_copied};
 ghost use Rattle.tup_path.specs.Name.{Names};
 ghost use Rattle.tup_path.specs.Order.{by_names};
 ghost use Rattle.tup_path.specs.Tree.{IsBelow};
 ghost use Rattle.tup_closure.specs.Grows.{Grows};
 ghost use Rattle.tup_graph.specs.Graph.{is_owned};
-ghost use Rattle.tup_closure.specs.Lists.{IsListed};
+ghost use Rattle.tup_closure.specs.Lists.{IsListed, last_of};
 ghost use Rattle.tup_scan_diff.specs.Sets.{Has};
-ghost use Rattle.tup_scan_diff.specs.Index.{AddsFile, HasBelow, HasTupfile, IsAddedIf, IsClosed, IsIndexOf, IsLastOf, IsParted, IsSourceAmong};
+ghost use Rattle.tup_scan_diff.specs.Index.{AddsFile, HasLast, HasTupfile, IsAddedIf, IsBeside, IsClosed, IsIndexOf, IsLastOf, IsParted, IsSourceAmong};
 
 use std::alloc::Global;
 use std::collections::BTreeSet;
@@ -47,7 +48,8 @@ impl Index {
 
     /// No files.
     fn empty(alloc: Global) -> Index
-        ensures { IsIndexOf (λ path. ⊥) result }
+        ensures index { IsIndexOf (λ path. ⊥) result }
+        ensures known { HasLast result }
     {
         Index {
             names: Lists::new(alloc),
@@ -63,9 +65,11 @@ impl Index {
         owners: &mut Owners<'_>,
         path: &Path,
     ) -> Result<(), GraphFault>
-        requires { IsClosed self.old.folders }
+        requires closed { IsClosed self.old.folders }
+        requires known { HasLast self.old }
         ensures added { OnOk result (IsAddedIf (is_owned owners.old path.now) path.now
             self.old self.new) }
+        ensures known { OnOk result (HasLast self.new) }
         ensures same { owners.new ≡ owners.old }
         ensures memory { IfErr result (λ fault. fault ≡ GraphFault.Memory) }
     {
@@ -75,10 +79,35 @@ impl Index {
         self.add(alloc, path)
     }
 
-    /// Adds a file.
+    /// Adds a file. Where it stands in the folder of the one before it, nothing is looked up.
     fn add(&mut self, alloc: Global, path: &Path) -> Result<(), GraphFault>
+        requires closed { IsClosed self.old.folders }
+        requires known { HasLast self.old }
+        ensures added { OnOk result (AddsFile path.now self.old self.new) }
+        ensures known { OnOk result (HasLast self.new) }
+        ensures memory { IfErr result (λ fault. fault ≡ GraphFault.Memory) }
+    {
+        match self.name_beside(path) {
+            Some(name) => self.names.add_to_last(name.clone()?),
+            None => self.add_anew(alloc, path),
+        }
+    }
+
+    /// The name of a file that stands in the folder of the one that was added last, unless it is a Tupfile.
+    fn name_beside<'p>(&self, path: &'p Path) -> Option<&'p Text>
+        ensures { IfSome (option_copied result) (IsBeside self.now path.now) }
+    {
+        match self.names.last() {
+            Some(last) => beside(last, path),
+            None => None,
+        }
+    }
+
+    /// Adds a file, whose folder is looked up.
+    fn add_anew(&mut self, alloc: Global, path: &Path) -> Result<(), GraphFault>
         requires { IsClosed self.old.folders }
         ensures added { OnOk result (AddsFile path.now self.old self.new) }
+        ensures known { HasLast self.old → OnOk result (HasLast self.new) }
         ensures memory { IfErr result (λ fault. fault ≡ GraphFault.Memory) }
     {
         let Some((dir, name)) = parted(alloc, path)? else {
@@ -96,6 +125,7 @@ impl Index {
             (IsListed self.old.names) (IsListed self.new.names)) }
         ensures tupfiles { OnOk result (Grows (λ folder. (folder ≡ dir) × (name ≡ codes "Tupfile"))
             (HasTupfile self.old) (HasTupfile self.new)) }
+        ensures last { OnOk result (last_of self.new.names ≡ Some dir) }
         ensures memory { IfErr result (λ fault. fault ≡ GraphFault.Memory) }
     {
         let is_tupfile = name.as_str() == "Tupfile";
@@ -107,12 +137,30 @@ impl Index {
     }
 }
 
+/// The name of a path that stands in a folder, unless it is a Tupfile.
+fn beside<'p>(last: &Path, path: &'p Path) -> Option<&'p Text>
+    ensures { IfSome (option_copied result) (λ name. (path.now ≡ last.now ++ name ∷ [])
+        × (name ≢ codes "Tupfile")) }
+{
+    let Some((name, folder)) = path.names().split_last() else {
+        return None;
+    };
+    if folder != last.names() {
+        return None;
+    }
+    if name.as_str() == "Tupfile" {
+        return None;
+    }
+    Some(name)
+}
+
 /// Adds a folder, and all folders above it. Where it is there, all are.
 fn add_folder(alloc: Global, folders: &mut BTreeSet<Path>, dir: &Path) -> Result<(), GraphFault>
     requires { IsClosed folders.old }
     ensures added { OnOk result ((path : Names) (name : List ℕ) → path ≡ dir.now ++ name ∷ []
         → Grows (λ folder. IsBelow folder path)
         (Has by_names folders.old) (Has by_names folders.new)) }
+    ensures there { OnOk result (Has by_names folders.new dir.now) }
     ensures memory { IfErr result (λ fault. fault ≡ GraphFault.Memory) }
 {
     if folders.contains(dir) {

@@ -2,7 +2,7 @@ use Rattle.tup_rule_diff.proofs.Looked.{numbers_more}
 use Rattle.tup_rule_diff.proofs.before.numbers_by_path.Goals as goal
 
 pub loop-at-init : goal.loop-at-init
-loop-at-init c = λ path. c.new-numbers.ensures path
+loop-at-init c = λ path. c.new-numbers.ensures.lists path
 
 pub loop-at-preserved : goal.loop-at-preserved
 loop-at-preserved c =

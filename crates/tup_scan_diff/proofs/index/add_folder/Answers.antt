@@ -1,4 +1,4 @@
-use Rattle.std.proofs.Common.{◌≡◌, sym, subst, ◌∙◌}
+use Rattle.std.proofs.Common.{◌≡◌, refl, sym, subst, ◌∙◌}
 use Rattle.tup_path.specs.Name.{Names}
 use Rattle.tup_path.specs.Order.{by_names}
 use Rattle.tup_path.proofs.Same.{by_names-decides}
@@ -17,3 +17,11 @@ returns-clause-added c = λ path name is.
     let new = c.insert.new.self in
     above_more path c.args.dir.now name is c.in_ok-add_above.ensures.added
     (subst (λ (dir : Names). Grows (λ folder. folder ≡ dir) (Has by_names mid) (Has by_names new)) c.in_ok-clone.ensures.cases (inserted by_names by_names-decides mid new c.in_ok-clone.field-0 c.in_ok-insert.ensures.updates))
+
+pub returns-then-contains-clause-there : goal.returns-then-contains-clause-there
+returns-then-contains-clause-there c = sym c.contains.ensures ∙ c.if-contains.true
+
+pub returns-clause-there : goal.returns-clause-there
+returns-clause-there c =
+    (subst (λ (dir : Names). Grows (λ folder. folder ≡ dir) (Has by_names c.add_above.new.folders) (Has by_names c.insert.new.self)) c.in_ok-clone.ensures.cases
+    (inserted by_names by_names-decides c.add_above.new.folders c.insert.new.self c.in_ok-clone.field-0 c.in_ok-insert.ensures.updates)).all c.args.dir.now refl

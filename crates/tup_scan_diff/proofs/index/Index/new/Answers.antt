@@ -15,13 +15,17 @@ loop-path-preserved c =
       index = source_more c.args.nodes.now c.args.files.now c.loop-path.path-index file file c.loop-path-test.true c.loop-path-item.is c.loop-path.index c.add_source.new.self before.index
           (subst (λ (g : GraphState). IsAddedIf (is_owned g file.0) file.0 c.loop-path.index c.add_source.new.self) before.owners c.in_ok-add_source.ensures.added);
       owners = c.in_ok-add_source.ensures.same ∙ before.owners;
+      known = c.in_ok-add_source.ensures.known;
     }
 
 pub loop-path-init : goal.loop-path-init
-loop-path-init c = record { index = no_sources c.args.nodes.now c.empty-index.result c.empty-index.ensures; owners = c.owners-owners.ensures }
+loop-path-init c = record { index = no_sources c.args.nodes.now c.empty-index.result c.empty-index.ensures.index; owners = c.owners-owners.ensures; known = c.empty-index.ensures.known }
 
-pub add_source-requires : goal.add_source-requires
-add_source-requires c = closed (IsSourceAmong c.args.nodes.now (take c.loop-path.path-index c.args.files.now)) c.loop-path.index c.loop-path.invariant.index
+pub add_source-requires-clause-closed : goal.add_source-requires-clause-closed
+add_source-requires-clause-closed c = closed (IsSourceAmong c.args.nodes.now (take c.loop-path.path-index c.args.files.now)) c.loop-path.index c.loop-path.invariant.index
+
+pub add_source-requires-clause-known : goal.add_source-requires-clause-known
+add_source-requires-clause-known c = c.loop-path.invariant.known
 
 pub returns-clause-index : goal.returns-clause-index
 returns-clause-index c =
