@@ -26,6 +26,12 @@ same_key path q = both (eq_by_cmp by_names path q) (same_path q path)
 pub flipped : (x y : Names) → same_path x y ≡ same_path y x
 flipped x y = same_path-by_names x y ∙ same_key x y
 
+nothing : (path : Names) → ◌≡◌ {A = Option Names} None (Some path) → ⊥
+nothing path e = cc
+
+same_last : (known path : Names) → Some known ≡ Some path → known ≡ path
+same_last known path e = cc
+
 module _ {V : Type 0} where
   -- the list at a path once that of another was written
   pub list_written : (path q : Names) (list : List V) (before after : Option (List V)) → after ≡ cond (eq_by_cmp by_names path q) (Some list) before →
@@ -46,9 +52,6 @@ module _ {V : Type 0} where
       either true = refl
       either false = refl
 
-  same_last : (known path : Names) → Some known ≡ Some path → known ≡ path
-  same_last known path e = cc
-
   -- the list of the last path with a value more
   pub last_pushed : (lists : Lists V) (known path : Names) (list longer : List V) (value : V) → Some (known, list) ≡ lists.last → last_of lists ≡ Some path → longer ≡ list ++ value ∷ [] → (q : Names)
       → list_beside (Some (known, longer)) lists.map q ≡ (if same_path q path then list_of lists q ++ value ∷ [] else list_of lists q)
@@ -56,6 +59,10 @@ module _ {V : Type 0} where
       ap (λ (l : List V). list_beside (Some (known, l)) lists.map q) is ∙ beside_pushed known q list lists.map value
       ∙ ap (λ (o : Option (Names × List V)). if same_path q known then list_beside o lists.map q ++ value ∷ [] else list_beside o lists.map q) here
       ∙ ap (λ (p : Names). if same_path q p then list_of lists q ++ value ∷ [] else list_of lists q) (same_last known path (ap (option_map (λ (one : Names × List V). one.0)) here ∙ last))
+
+  -- where there is no last path, none is the last one
+  pub none_last : (last : Option (Names × List V)) (path : Names) → None ≡ last → option_map (λ (one : Names × List V). one.0) last ≡ Some path → ⊥
+  none_last last path none is = nothing path (ap (option_map (λ (one : Names × List V). one.0)) none ∙ is)
 
   -- a path's list is taken out of a map and stands beside it
   pub turned : (path q : Names) (list : List V) (last : Option (Names × List V)) (map : BTreeMap Names (List V)) (before : Names → List V) → last ≡ None → list ≡ before path

@@ -99,8 +99,8 @@ impl<V: Drop> Lists<V> {
         ensures err { IfErr result (λ fault. fault ≡ GraphFault.Memory) }
     {
         match self.last.take() {
-            Some((path, list)) => {
-                let mut list = list;
+            Some((path, before)) => {
+                let mut list = before;
                 list.push(value)?;
                 self.last = Some((path, list));
                 Ok(())

@@ -1,36 +1,43 @@
 //! Whether what a reading was told is still so.
-ghost use Rattle.std.specs.Prelude.{◌≡◌, ◌++◌, ◌∷◌, [], Option, IfOk, IfErr, IsTrue};
+ghost use Rattle.std.specs.Prelude.{◌≡◌, ◌++◌, ◌∷◌, [], Option, IfOk, IfErr, bytes_eq};
 ghost use Rattle.std.specs.Bool.{Decides};
+ghost use Rattle.std.specs.List.{list_any};
 ghost use Rattle.tup_path.specs.Name.{Names, Content};
 ghost use Rattle.tup_rule.specs.declared.question.Question.TheVariants as asks;
 ghost use Rattle.tup_graph.specs.Answers.{IsKind, IsMadeElsewhere, IsOutputOf, IsSource};
 ghost use Rattle.tup_graph.specs.Graph.{source};
+ghost use Rattle.tup_closure.specs.Lists.{list_of};
 ghost use Rattle.tup_scan_diff.specs.Present.{IsPresent, IsWhole, graph_of};
 ghost use Rattle.tup_scan_diff.specs.Told.{AreNames, AreToldSo, IsToldOtherwise, IsToldSo, Tells};
 
-use crate::index::parted;
+use crate::index::{name_in, parted};
 use crate::present::Present;
 use std::alloc::Global;
 use tup_graph::GraphFault;
 use tup_path::{Path, Text, Texts};
 use tup_rule::{Kind, Noted, Question};
 
+/// So many names are looked through one after another; where there are more, a path is looked up among all files.
+const FEW: usize = 32;
+
 impl Present<'_> {
-    /// Whether all that the reading of a folder was told is still so.
+    /// Whether all that the reading of a folder was told is still so. The names are those of the sources in the folder.
     pub(crate) fn all_stand(
         &self,
         alloc: Global,
         reader: &Path,
+        beside: &[Text],
         asked: &[(Question, Noted)],
     ) -> Result<bool, GraphFault>
         requires present { IsWhole self.now }
+        requires beside { beside.now ≡ list_of self.now.index.names reader.now }
         ensures stand { (config : Option Content) → IsPresent config self.now
             → IfOk result (λ stand. Tells stand (AreToldSo config self.now reader.now asked.now)
             (IsToldOtherwise config self.now reader.now asked.now)) }
         ensures memory { IfErr result (λ fault. fault ≡ GraphFault.Memory) }
     {
         for (question, noted) in asked {
-            let stands = self.stands(alloc, reader, question, noted)?;
+            let stands = self.stands(alloc, reader, beside, question, noted)?;
             if !stands {
                 return Ok(false);
             }
@@ -43,10 +50,12 @@ impl Present<'_> {
         &self,
         alloc: Global,
         reader: &Path,
+        beside: &[Text],
         question: &Question,
         noted: &Noted,
     ) -> Result<bool, GraphFault>
         requires present { IsWhole self.now }
+        requires beside { beside.now ≡ list_of self.now.index.names reader.now }
         ensures stands { (config : Option Content) → IsPresent config self.now
             → IfOk result (λ stands. Decides stands
             (IsToldSo config self.now reader.now question.now noted.now)) }
@@ -56,7 +65,7 @@ impl Present<'_> {
             Question::Content(path) => Ok(self.content_stands(path, noted)),
             Question::Config(name) => Ok(self.setting_stands(name, noted)),
             Question::Names(dir) => self.names_stand(alloc, reader, dir, noted),
-            Question::Kind(path) => self.kind_stands(alloc, reader, path, noted),
+            Question::Kind(path) => self.kind_stands(alloc, reader, beside, path, noted),
         }
     }
 
@@ -106,16 +115,18 @@ impl Present<'_> {
         &self,
         alloc: Global,
         reader: &Path,
+        beside: &[Text],
         path: &Path,
         noted: &Noted,
     ) -> Result<bool, GraphFault>
         requires present { IsWhole self.now }
+        requires beside { beside.now ≡ list_of self.now.index.names reader.now }
         ensures stands { IfOk result (λ stands. (config : Option Content)
             → Decides stands (IsToldSo config self.now reader.now (asks.Kind path.now) noted.now)) }
         ensures memory { IfErr result (λ fault. fault ≡ GraphFault.Memory) }
     {
         match noted {
-            Noted::Kind(kind) => self.is_kind(alloc, reader, path, *kind),
+            Noted::Kind(kind) => self.is_kind(alloc, reader, beside, path, *kind),
             Noted::Content(_) | Noted::Config(_) | Noted::Names(_) => Ok(false),
         }
     }
@@ -142,27 +153,77 @@ impl Present<'_> {
         &self,
         alloc: Global,
         reader: &Path,
+        beside: &[Text],
         path: &Path,
         kind: Kind,
     ) -> Result<bool, GraphFault>
         requires present { IsWhole self.now }
+        requires beside { beside.now ≡ list_of self.now.index.names reader.now }
         ensures kind { IfOk result (λ is. Decides is (IsKind (source (graph_of self.now))
             self.now.nodes.now.readings reader.now path.now kind)) }
         ensures memory { IfErr result (λ fault. fault ≡ GraphFault.Memory) }
     {
-        Ok(self.kind(alloc, reader, path)? == kind)
+        Ok(self.kind(alloc, reader, beside, path)? == kind)
     }
 
     /// What stands at a path, as the reading of a folder is told it.
-    fn kind(&self, alloc: Global, reader: &Path, path: &Path) -> Result<Kind, GraphFault>
+    fn kind(
+        &self,
+        alloc: Global,
+        reader: &Path,
+        beside: &[Text],
+        path: &Path,
+    ) -> Result<Kind, GraphFault>
+        requires present { IsWhole self.now }
+        requires beside { beside.now ≡ list_of self.now.index.names reader.now }
+        ensures kind { IfOk result (IsKind (source (graph_of self.now))
+            self.now.nodes.now.readings reader.now path.now) }
+        ensures memory { IfErr result (λ fault. fault ≡ GraphFault.Memory) }
+    {
+        match name_in(reader, path) {
+            Some(name) => Ok(self.kind_beside(reader, beside, path, name)),
+            None => self.kind_elsewhere(alloc, reader, path),
+        }
+    }
+
+    /// What stands at a path in the folder that is read: no output of its reading is told.
+    fn kind_beside(&self, reader: &Path, beside: &[Text], path: &Path, name: &Text) -> Kind
+        requires present { IsWhole self.now }
+        requires beside { beside.now ≡ list_of self.now.index.names reader.now }
+        requires parts { path.now ≡ reader.now ++ name.now ∷ [] }
+        ensures { IsKind (source (graph_of self.now))
+            self.now.nodes.now.readings reader.now path.now result }
+    {
+        if self.is_source_beside(reader, beside, path, name) {
+            return Kind::File;
+        }
+        if self.index.folders.contains(path) {
+            return Kind::Dir;
+        }
+        Kind::Nothing
+    }
+
+    /// Whether a path in the folder that is read is a source. Most answers are about these, and a look through a few names is
+    /// shorter than one among all files.
+    fn is_source_beside(&self, reader: &Path, beside: &[Text], path: &Path, name: &Text) -> bool
+        requires present { IsWhole self.now }
+        requires beside { beside.now ≡ list_of self.now.index.names reader.now }
+        requires parts { path.now ≡ reader.now ++ name.now ∷ [] }
+        ensures { Decides result (IsSource (source (graph_of self.now)) path.now) }
+    {
+        if !are_few(beside) {
+            return self.source(path).is_some();
+        }
+        has_name(beside, name)
+    }
+
+    /// What stands at a path, wherever that is.
+    fn kind_elsewhere(&self, alloc: Global, reader: &Path, path: &Path) -> Result<Kind, GraphFault>
         requires present { IsWhole self.now }
         ensures kind { IfOk result (IsKind (source (graph_of self.now))
             self.now.nodes.now.readings reader.now path.now) }
         ensures memory { IfErr result (λ fault. fault ≡ GraphFault.Memory) }
     {
-        if self.is_beside(reader, path) {
-            return Ok(Kind::File);
-        }
         if self.source(path).is_some() {
             return Ok(Kind::File);
         }
@@ -173,21 +234,6 @@ impl Present<'_> {
             return Ok(Kind::File);
         }
         Ok(Kind::Nothing)
-    }
-
-    /// Whether a path is found among the sources of the folder that is read. Most answers are about these, and a look among the
-    /// names of one folder is shorter than one among all files. Where it isn't found it may be a source all the same.
-    fn is_beside(&self, reader: &Path, path: &Path) -> bool
-        requires present { IsWhole self.now }
-        ensures { IsTrue result → IsSource (source (graph_of self.now)) path.now }
-    {
-        let Some((name, folder)) = path.names().split_last() else {
-            return false;
-        };
-        if folder != reader.names() {
-            return false;
-        }
-        self.index.names.of(reader).binary_search(name).is_ok()
     }
 
     /// Whether a path is an output of the reading of its folder, which is another one than the one that is read.
@@ -222,4 +268,16 @@ impl Present<'_> {
         }
         self.made.has(dir, name)
     }
+}
+
+/// Whether names are so few that they are looked through.
+fn are_few(names: &[Text]) -> bool {
+    names.len() <= FEW
+}
+
+/// Whether a name is one of these.
+fn has_name(names: &[Text], name: &Text) -> bool
+    ensures { result ≡ list_any (bytes_eq name.now) names.now }
+{
+    names.iter().any(|one| name == one)
 }

@@ -138,17 +138,27 @@ impl Index {
 }
 
 /// The name of a path that stands in a folder, unless it is a Tupfile.
-fn beside<'p>(last: &Path, path: &'p Path) -> Option<&'p Text>
-    ensures { IfSome (option_copied result) (λ name. (path.now ≡ last.now ++ name ∷ [])
+fn beside<'p>(dir: &Path, path: &'p Path) -> Option<&'p Text>
+    ensures { IfSome (option_copied result) (λ name. (path.now ≡ dir.now ++ name ∷ [])
         × (name ≢ codes "Tupfile")) }
+{
+    let Some(name) = name_in(dir, path) else {
+        return None;
+    };
+    if name.as_str() == "Tupfile" {
+        return None;
+    }
+    Some(name)
+}
+
+/// The name of a path that stands in a folder.
+pub(crate) fn name_in<'p>(dir: &Path, path: &'p Path) -> Option<&'p Text>
+    ensures { IfSome (option_copied result) (λ name. path.now ≡ dir.now ++ name ∷ []) }
 {
     let Some((name, folder)) = path.names().split_last() else {
         return None;
     };
-    if folder != last.names() {
-        return None;
-    }
-    if name.as_str() == "Tupfile" {
+    if folder != dir.names() {
         return None;
     }
     Some(name)

@@ -79,7 +79,8 @@ impl Present<'_> {
         if !self.index.tupfiles.contains(dir) {
             return Ok(true);
         }
-        Ok(!self.all_stand(alloc, dir, reading.asked.as_slice())?)
+        let beside = self.index.names.of(dir);
+        Ok(!self.all_stand(alloc, dir, beside, reading.asked.as_slice())?)
     }
 
     /// Adds the folders that have a Tupfile and no reading.

@@ -8,7 +8,7 @@ use Rattle.tup_why.proofs.Making.{no_makers, makers_more}
 use Rattle.tup_why.proofs.makers.makers_of.Goals as goal
 
 pub loop-number-init : goal.loop-number-init
-loop-number-init c = no_makers c.args.plan.now.rules c.new-makers.result c.new-makers.ensures
+loop-number-init c = no_makers c.args.plan.now.rules c.new-makers.result c.new-makers.ensures.lists
 
 pub loop-number-preserved : goal.loop-number-preserved
 loop-number-preserved c =

@@ -11,8 +11,8 @@ use Rattle.tup_scan_diff.specs.declared.index.Index.{Index}
 use Rattle.tup_scan_diff.proofs.Indexed.{adds_file, all_there}
 use Rattle.tup_scan_diff.proofs.index.Index.add.Goals as goal
 
-pub returns-in-Some-clause-added : goal.returns-in-Some-clause-added
-returns-in-Some-clause-added c =
+pub returns-in_ok-clone-in-Some-clause-added : goal.returns-in_ok-clone-in-Some-clause-added
+returns-in_ok-clone-in-Some-clause-added c =
     let old = c.args.self.now in
     let path = c.args.path.now in
     let name = c.in-Some.name.now in
@@ -25,8 +25,8 @@ returns-in-Some-clause-added c =
     (subst (λ (last : List ℕ). OnOk c.add_to_last.result ((q : Names) → list_of new.names q ≡ (if same_path q is.dir then list_of old.names q ++ last ∷ [] else list_of old.names q)))
     c.in_ok-clone-in-Some.ensures.cases (c.add_to_last.ensures.ok is.dir is.last))
 
-pub returns-in-Some-clause-known : goal.returns-in-Some-clause-known
-returns-in-Some-clause-known c =
+pub returns-in_ok-clone-in-Some-clause-known : goal.returns-in_ok-clone-in-Some-clause-known
+returns-in_ok-clone-in-Some-clause-known c =
     on_ok_weaker c.add_to_last.result (λ same. subst (λ (last : Option Names). IfSome last (HasBelow c.args.self.now)) (sym same) c.requires.known) c.add_to_last.ensures.last
 
 pub returns-in-None-clause-known : goal.returns-in-None-clause-known
