@@ -19,6 +19,7 @@ ghost use Rattle.tup_phases.specs.Room.{FillsStore};
 
 use std::alloc::{AllocError, Global};
 use std::marker::Brand;
+use std::mem;
 use std::sync::ledger::Blank;
 use tup_commit::uncounted::swap_rules;
 use tup_graph::Nodes;
@@ -99,6 +100,7 @@ pub(crate) fn brought<S: Site>(
     flags_are_of_rules();
     let found = refresh(alloc, graph.nodes(), site, config)?;
     if brings_nothing(graph.nodes(), &found) {
+        let_go(graph.nodes(), found);
         return Ok(());
     }
     swapped(alloc, site, graph, found, log)
@@ -109,6 +111,16 @@ fn brings_nothing(nodes: &Nodes, found: &Refreshed) -> bool
     ensures { IsTrue result → BringsNothing nodes.now found.now }
 {
     found.fresh.len() == 0 && found.gone.len() == 0 && nodes.created().next().is_none()
+}
+
+/// Gives up readings that brought nothing. Where no rule is flagged the program ends with its update: that their memory is
+/// freed piece by piece then helps nobody.
+fn let_go(nodes: &Nodes, found: Refreshed) {
+    if nodes.flags().next().is_none() {
+        mem::forget(found);
+    } else {
+        drop(found);
+    }
 }
 
 /// Links the readings of all folders to the rules of the project, and puts readings and rules into the graph.
