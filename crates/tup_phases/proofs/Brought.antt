@@ -1,5 +1,6 @@
 -- What the Tupfiles bring to the graph of a site that was kept.
-use Rattle.std.proofs.Common.{◌≡◌, ◌⊎◌, inl, inr, ◌↔◌, ℕ, true, false, Bool, not, List, Ok, Option, Result, None, Some, refl, sym, ap, subst, ◌∙◌}
+use Rattle.std.proofs.Common.{◌≡◌, ◌⊎◌, inl, inr, ◌↔◌, ℕ, true, false, cond, Bool, not, List, Ok, Option, Result, None, Some, refl, sym, ap, subst, ◌∙◌}
+use Rattle.std.proofs.lemmas.Bool.{true≢false}
 use Rattle.std.specs.Option.{MatchOption}
 use Rattle.std.specs.Prelude.{is_some, slice_get}
 use Rattle.std.specs.FinMap as finite
@@ -14,28 +15,33 @@ use Rattle.tup_rule.specs.declared.rule.Rule.{Rule}
 use Rattle.tup_runner.specs.Next.{Next}
 use Rattle.tup_clean.specs.Buildable.{IsBuildable}
 use Rattle.tup_readings.specs.Readings.{IsOutcome}
+use Rattle.tup_readings.specs.Sources.{has_tupfile}
 use Rattle.tup_project.specs.Project.{AreLinked, ComeTo}
 use Rattle.tup_record.specs.declared.run.RunRecord.{RunRecord}
 use Rattle.tup_table.specs.Entries.{entries_of}
-use Rattle.tup_graph.specs.Answers.{tup_config}
+use Rattle.tup_graph.specs.Answers.{IsSource, tup_config, tupfile}
 use Rattle.tup_graph.specs.declared.owned.Owned.{Owned}
-use Rattle.tup_graph.specs.Graph.{GraphState, is_flagged, is_owned, is_rule}
+use Rattle.tup_graph.specs.Graph.{GraphState, is_flagged, is_owned, is_rule, source}
 use Rattle.tup_graph.specs.Kept.{IsGraphIn, IsKept}
 use Rattle.tup_graph.specs.Reach.{IsReached}
 use Rattle.tup_graph.specs.Swap.{IsNew, IsSwapped, WasAt}
 use Rattle.tup_ledger.specs.Sources.{sources_of}
+use Rattle.tup_ledger.proofs.Trees.{get_source}
 use Rattle.tup_closure.proofs.Stored.{stored as runs_stored}
 use Rattle.tup_law_graph.specs.Fitting.{AreFitting}
 use Rattle.tup_law_graph.proofs.Reaching.{flags_are_reach, scan_flags_are_reach}
 use Rattle.tup_law_graph.proofs.Swapping.{was_or_new}
 use Rattle.tup_law_site.proofs.Stores.{one_in_bytes}
 use Rattle.tup_refresh.specs.Cause.{IsRefreshOf}
+use Rattle.tup_refresh.specs.Idle.{IsIdle, idle}
 use Rattle.tup_refresh.specs.Refresh.{AreTrue, IsRefresh}
 use Rattle.tup_refresh.specs.Untouched.{SeesSources}
 use Rattle.tup_refresh.specs.declared.fault.RefreshFault.{RefreshFault}
 use Rattle.tup_refresh.specs.declared.refreshed.Refreshed.{Refreshed}
 use Rattle.tup_refresh.proofs.Ending.{refreshed_read}
+use Rattle.tup_refresh.proofs.Idling.{idle_brings_nothing, not_created}
 use Rattle.tup_refresh.proofs.Recorded.{records_serve}
+use Rattle.tup_refresh.proofs.Untouched.{is_source_so}
 use Rattle.tup_law_phases.specs.Language.{tupfiles}
 use Rattle.tup_law_phases.proofs.Fitting.{refresh_brings}
 use Rattle.tup_law_phases.proofs.Seen.{is_tree, knows_sources, sees}
@@ -64,6 +70,28 @@ pub refreshed_of : (next : Next) (known : List Content) (g nodes : GraphState) (
 refreshed_of next known g nodes tree config result value is knows kept seen set tells =
     subst (λ (n : GraphState). SeesSources (sources_of n tree) n → config ≡ finite.get tree tup_config → AreTrue (sources_of n tree) n → IsRefreshOf n (sources_of n tree) result) value tells
     (sees g tree seen) set (are_true next known g tree is knows kept)
+
+-- and where that is plain from a scan, a refresh brings nothing
+module _ (first now : World) (g : GraphState) (noted : IsNoted first now g) (seen : HasSeen g now.tree) where
+  abbrev sources_now : Tree
+  sources_now = sources_of g now.tree
+
+  set_so : (config : Option Content) → config ≡ finite.get now.tree tup_config → (b : Bool) → is_owned g tup_config ≡ b → (finite.get sources_now tup_config ≡ None) ⊎ (finite.get sources_now tup_config ≡ config)
+  set_so config set true owned = inl (get_source g now.tree tup_config ∙ ap (λ (b : Bool). cond (not b) (finite.get now.tree tup_config) None) owned)
+  set_so config set false owned = inr (get_source g now.tree tup_config ∙ ap (λ (b : Bool). cond (not b) (finite.get now.tree tup_config) None) owned ∙ sym set)
+
+  -- what is kept of a folder that isn't flagged is what its Tupfile says
+  has_one : g.created ≡ finite.empty → (dir : Names) (left : Reading) → finite.get g.readings dir ≡ Some left → (b : Bool) → has_tupfile sources_now dir ≡ b → has_tupfile sources_now dir ≡ true
+  has_one created dir left there true has = has
+  has_one created dir left there false lacks =
+      let none : IsSource (source g) (tupfile dir) → ⊥ = λ s. true≢false (sym (is_source_so sources_now g (sees g now.tree seen) (tupfile dir) s) ∙ lacks) in
+      absurd (true≢false (sym ((noted.scanned.1.created dir).1 (inr (inr (left, there, inl none)))) ∙ not_created g created dir))
+
+  pub plain_refreshed : (next : Next) (known : List Content) (config : Option Content) → IsKnown known → KnowsTree known now.tree → IsKept next tupfiles known g → IsIdle g config → config ≡ finite.get now.tree tup_config
+      → IsRefresh g sources_now (Ok (idle g))
+  plain_refreshed next known config is knows kept plain set =
+      idle_brings_nothing next tupfiles known g sources_now config is_language.0 is (knows_sources g now.tree known knows) kept (sees g now.tree seen) plain (set_so config set (is_owned g tup_config) refl)
+      (λ dir left there. has_one plain.created dir left there (has_tupfile sources_now dir) refl)
 
 -- readings of the sources, with the rules to which they are linked, may be swapped in
 pub fits_so : (known : List Content) (g : GraphState) (tree : Tree) (found : Refreshed) (rules : List Rule) → KnowsTree known tree → IsTree tree → HasSeen g tree → IsRefresh g (sources_of g tree) (Ok found)

@@ -5,10 +5,13 @@ ghost use Rattle.std.specs.Result.{result_err};
 ghost use Rattle.tup_site.specs.Crash.{GoesOn};
 ghost use Rattle.tup_site.specs.World.{TreeStays, World};
 ghost use Rattle.tup_runner.specs.Next.{Next};
+ghost use Rattle.tup_table.specs.Table.{entries_in};
 ghost use Rattle.tup_graph.specs.Answers.{tup_config};
+ghost use Rattle.tup_graph.specs.Opening.{IsGraphOf};
 ghost use Rattle.tup_ledger.specs.Sources.{sources_of};
 ghost use Rattle.tup_rule_diff.specs.Edits.{dir_of};
 ghost use Rattle.tup_stored_graph.specs.Held.{is_fresh, StandsFor};
+ghost use Rattle.tup_refresh.specs.Idle.{IsIdle};
 ghost use Rattle.tup_refresh.specs.Refresh.{AreSorted, IsRefresh};
 ghost use Rattle.tup_promise.specs.Cause.{HasCountedCause};
 ghost use Rattle.tup_promise.specs.Crashes.{OwnsNoMore};
@@ -28,7 +31,7 @@ use tup_partial::flags_are_of_rules;
 use tup_path::{Bytes, Path, Paths};
 use tup_project::link_all;
 use tup_promise::{Log, Stop};
-use tup_refresh::{Refreshed, refresh};
+use tup_refresh::{Refreshed, is_idle, refresh};
 use tup_rule::Reading;
 use tup_rule_diff::Refreshed as Readings;
 use tup_site::Site;
@@ -36,7 +39,8 @@ use tup_stored_graph::{Graph, reads_keep_graphs};
 
 /// Reads the Tupfiles that have to be read again, and puts into the graph what they say by now. The log is told of them.
 ///
-/// Where no folder was to be read and no Tupfile vanished, the rules are those of before, and nothing is linked or written.
+/// Where no folder was to be read and no Tupfile vanished, the rules are those of before, and nothing is linked or written. Where
+/// that is plain from the scan and from what readings asked, they aren't compared again.
 pub(crate) fn brought<S: Site>(
     alloc: Global,
     site: &mut S,
@@ -98,12 +102,25 @@ pub(crate) fn brought<S: Site>(
 {
     reads_keep_graphs(&*site);
     flags_are_of_rules();
+    if is_plain(alloc, &*graph, config) {
+        return Ok(());
+    }
     let found = refresh(alloc, graph.nodes(), site, config)?;
     if brings_nothing(graph.nodes(), &found) {
         let_go(graph.nodes(), found);
         return Ok(());
     }
     swapped(alloc, site, graph, found, log)
+}
+
+/// Whether it is plain, before anything is read, that the readings are those that the graph keeps.
+fn is_plain(alloc: Global, graph: &Graph, config: &Option<Bytes>) -> bool
+    ensures idle { IsTrue result → IsIdle graph.now.nodes config.now }
+    // A law: while the graph is fresh, the store stands for its nodes.
+    ensures graph { IsTrue (is_fresh graph.now)
+        → IsGraphOf (entries_in graph.now.table) graph.now.nodes }
+{
+    is_idle(alloc, graph.nodes(), config)
 }
 
 /// Whether all readings are those that the graph keeps, and it waits for none.

@@ -17,3 +17,4 @@ pub mod Outlining
 pub mod Outcome
 pub mod Causes
 pub mod Staying
+pub mod Idling

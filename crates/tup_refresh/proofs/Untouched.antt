@@ -346,7 +346,7 @@ module _ (next : Next) (language : Language) (known : List Content) (g : GraphSt
   untouched_on dir other asked untouched = λ more last leads. untouched (suc more) last (other, asked, leads)
 
   -- a folder that isn't flagged has a kept reading
-  one_kept : (dir : Names) → IsTrue (has_tupfile sources dir) → is_created g dir ≡ false → (left : Reading) × (finite.get g.readings dir ≡ Some left)
+  pub one_kept : (dir : Names) → IsTrue (has_tupfile sources dir) → is_created g dir ≡ false → (left : Reading) × (finite.get g.readings dir ≡ Some left)
   one_kept dir has off = by (finite.get g.readings dir) refl (is_kept.agrees.read dir (source_is sources g sees (tupfile dir) has) off)
     where
       by : (found : Option Reading) → finite.get g.readings dir ≡ found → IsSome (finite.get g.readings dir) → (left : Reading) × (finite.get g.readings dir ≡ Some left)
@@ -355,7 +355,7 @@ module _ (next : Next) (language : Language) (known : List Content) (g : GraphSt
 
   module _ (before : Readings) (tups : AreOfTupfiles sources settings before) (stay : (dir : Names) (left : Reading) → finite.get before dir ≡ Some left → IsUntouched sources g dir → finite.get g.readings dir ≡ Some left) where
     -- what an untouched folder was told is what is answered
-    told_stands : (dir : Names) (left : Reading) (one : Question × Noted) → finite.get g.readings dir ≡ Some left → IsUntouched sources g dir → Contains left.asked one → awaited sources before dir one.0 ≡ None
+    pub told_stands : (dir : Names) (left : Reading) (one : Question × Noted) → finite.get g.readings dir ≡ Some left → IsUntouched sources g dir → Contains left.asked one → awaited sources before dir one.0 ≡ None
         → kept_as (answer sources settings before dir one.0) ≡ one.1
     told_stands dir left one there untouched asked ready =
         answer_stands sources g sees settings before tups dir known is_known tree set one.0 one.1
@@ -425,7 +425,7 @@ module _ (next : Next) (language : Language) (known : List Content) (g : GraphSt
       at None = refl
       at (Some folder) = ap (λ b. cond b (Some folder) None) (off (same_path dir folder) (has_tupfile sources folder) (finite.get all folder) (λ has. are.all folder has))
 
-  not_due : (all : Readings) → AreAllReadings sources settings all → (dir : Names) → IsUntouched sources g dir → IsDue g sources settings all dir → ⊥
+  pub not_due : (all : Readings) → AreAllReadings sources settings all → (dir : Names) → IsUntouched sources g dir → IsDue g sources settings all dir → ⊥
   not_due all are dir untouched (has, inl none) =
       let there = one_kept dir has (untouched 0 dir refl) in
       let wrong : None ≡ Some there.0 = sym none ∙ ap (λ b. cond b None (finite.get g.readings dir)) (untouched 0 dir refl) ∙ there.1 in

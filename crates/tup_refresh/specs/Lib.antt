@@ -8,3 +8,4 @@ pub mod Part
 pub mod Outline
 pub mod Asking
 pub mod Cause
+pub mod Idle

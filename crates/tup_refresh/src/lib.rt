@@ -12,6 +12,7 @@ mod fault;
 mod fetched;
 mod found;
 mod gone;
+mod idle;
 mod laws;
 mod outline;
 mod part;
@@ -21,6 +22,7 @@ mod standing;
 mod walk;
 
 pub use fault::RefreshFault;
+pub use idle::is_idle;
 pub use laws::{
     readings_are_true_records, refreshed_as_read, true_records_serve, untouched_are_not_read,
 };

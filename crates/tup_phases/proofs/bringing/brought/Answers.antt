@@ -1,5 +1,5 @@
 use Rattle.tup_phases.proofs.Owning.{read_owns}
-use Rattle.std.proofs.Common.{Err, sym, subst, Ok, ap, map, ◌∙◌}
+use Rattle.std.proofs.Common.{Err, sym, subst, Ok, ap, map, ◌∙◌, inl, refl, arith}
 use Rattle.std.specs.FinMap as finite
 use Rattle.tup_graph.specs.Answers.{tup_config}
 use Rattle.tup_site.specs.Cause.{IsTooLarge}
@@ -12,9 +12,10 @@ use Rattle.tup_table.specs.Entries.{entries_of}
 use Rattle.tup_table.specs.Table.{entries_in}
 use Rattle.tup_graph.specs.Graph.{GraphState}
 use Rattle.tup_graph.specs.Opening.{IsGraphOf}
+use Rattle.tup_refresh.specs.Idle.{idle}
 use Rattle.tup_refresh.specs.Refresh.{IsRefresh}
 use Rattle.tup_ledger.specs.Sources.{sources_of}
-use Rattle.tup_phases.proofs.Brought.{idle_brought, refreshed_of}
+use Rattle.tup_phases.proofs.Brought.{idle_brought, plain_refreshed, refreshed_of}
 use Rattle.tup_phases.proofs.Keeping.{files_both, files_read, first_kept, graph_kept, same_sources, since_read, trees_both, trees_by}
 use Rattle.std.specs.Result.{result_err}
 use Rattle.tup_site.specs.Crash.{NoStep}
@@ -31,6 +32,63 @@ use Rattle.tup_phases.proofs.Filling.{refresh_fills}
 use Rattle.tup_rule_diff.specs.Edits.{dir_of}
 use Rattle.tup_phases.proofs.Reading.{reads_these}
 use Rattle.tup_phases.proofs.bringing.brought.Goals as goal
+
+-- ---- that they bring nothing is plain
+
+pub returns-then-is_plain-clause-files : goal.returns-then-is_plain-clause-files
+returns-then-is_plain-clause-files g c = λ tells. record { later = omega arith; tree = refl; known = refl }
+
+pub returns-then-is_plain-clause-trees : goal.returns-then-is_plain-clause-trees
+returns-then-is_plain-clause-trees g c = λ tells. record { later = omega arith; kept = λ t w before left. left; since = λ t w before left. inl left }
+
+pub returns-then-is_plain-clause-kept : goal.returns-then-is_plain-clause-kept
+returns-then-is_plain-clause-kept g c = λ tells next first since noted kept. kept
+
+pub returns-then-is_plain-clause-owns : goal.returns-then-is_plain-clause-owns
+returns-then-is_plain-clause-owns g c = λ tells next since begun noted kept owns. owns
+
+pub returns-then-is_plain-clause-brought : goal.returns-then-is_plain-clause-brought
+returns-then-is_plain-clause-brought g c = λ tells next first since noted kept.
+    let site_laws = g.met.S.Site in
+    let at = c.args.site.now in
+    let graph = c.args.graph.now in
+    let known = g.S.Site.known at in
+    let stands = c.requires.stands tells in
+    let seen = c.requires.seen tells in
+    let plain = c.is_plain.ensures.idle c.if-is_plain.true in
+    let is = c.is_plain.ensures.graph c.requires.fresh in
+    let kept_now = graph_kept g.S.Site tells site_laws.earlier site_laws.present next first since graph at stands is kept in
+    let refreshed =
+    plain_refreshed first (g.S.Site.world at) graph.nodes noted seen next known c.args.config.now (site_laws.is_known at tells) (site_laws.knows_tree at tells) kept_now plain (c.requires.config tells) in
+    idle_brought first (g.S.Site.world at) graph.nodes noted next known
+    (first_kept g.S.Site tells site_laws.earlier site_laws.present next first since graph at stands is kept noted.was noted.stored) seen (idle graph.nodes)
+    (c.flags_are_of_rules.ensures (entries_of noted.stored.commits) noted.was noted.stored.graph) kept_now
+    (record { created = plain.created; fresh = refl; gone = refl })
+    (subst (λ (sources : Tree). IsRefresh graph.nodes sources (Ok (idle graph.nodes))) (same_sources g.S.Site tells site_laws.earlier site_laws.present next first since graph at stands is kept noted.was noted.stored) refreshed)
+
+pub returns-then-is_plain-clause-reads : goal.returns-then-is_plain-clause-reads
+returns-then-is_plain-clause-reads g c = λ tells next first since noted kept none.
+    let site_laws = g.met.S.Site in
+    let at = c.args.site.now in
+    let graph = c.args.graph.now in
+    let seen = c.requires.seen tells in
+    let is = c.is_plain.ensures.graph c.requires.fresh in
+    let kept_now = graph_kept g.S.Site tells site_laws.earlier site_laws.present next first since graph at (c.requires.stands tells) is kept in
+    reads_these first (g.S.Site.world at) graph.nodes noted seen (idle graph.nodes) c.args.log.now.read
+    (plain_refreshed first (g.S.Site.world at) graph.nodes noted seen next (g.S.Site.known at) c.args.config.now (site_laws.is_known at tells) (site_laws.knows_tree at tells) kept_now (c.is_plain.ensures.idle c.if-is_plain.true) (c.requires.config tells))
+    none
+
+pub returns-then-is_plain-clause-within : goal.returns-then-is_plain-clause-within
+returns-then-is_plain-clause-within g c = λ tells next first since noted kept.
+    let site_laws = g.met.S.Site in
+    let at = c.args.site.now in
+    let graph = c.args.graph.now in
+    let stands = c.requires.stands tells in
+    let is = c.is_plain.ensures.graph c.requires.fresh in
+    let was_kept = first_kept g.S.Site tells site_laws.earlier site_laws.present next first since graph at stands is kept noted.was noted.stored in
+    let flags = c.flags_are_of_rules.ensures (entries_of noted.stored.commits) noted.was noted.stored.graph in
+    over_within g.S.Site tells site_laws.earlier site_laws.present first next first since graph at stands is kept
+    (scan_within next (g.S.Site.known at) first noted.was graph.nodes (g.S.Site.world at).tree noted.stored noted.tree was_kept flags (finite.get first.tree tup_config) noted.scanned (c.requires.seen tells))
 
 -- ---- they couldn't be read
 
