@@ -4,3 +4,5 @@ pub mod Alike
 pub mod Outputs
 pub mod Writes
 pub mod Asked
+pub mod Adding
+pub mod Reading

@@ -5,3 +5,4 @@ pub mod Generated
 pub mod Written
 pub mod Refusal
 pub mod Answered
+pub mod Inputs

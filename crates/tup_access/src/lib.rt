@@ -7,11 +7,13 @@
 
 mod access;
 mod fault;
+mod inputs;
 mod judging;
 mod refusal;
 mod verdict;
 
 pub use access::{MAX_ASKS, allowed};
 pub use fault::AccessFault;
+pub use inputs::{Inputs, add_paths};
 pub use judging::judge;
 pub use verdict::{Access, Verdict};

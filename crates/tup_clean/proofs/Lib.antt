@@ -10,7 +10,6 @@ pub mod Agreeing
 pub mod Sorted
 pub mod Growing
 pub mod Building
-pub mod Outputs
 pub mod Counting
 pub mod Queueing
 pub mod Taking

@@ -8,3 +8,4 @@ pub mod Buildable
 pub mod Queue
 pub mod Ready
 pub mod Readers
+pub mod Reads

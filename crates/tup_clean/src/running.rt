@@ -10,7 +10,7 @@ use crate::tree::FileTree;
 use crate::view::{FileView, Sight};
 use std::alloc::Global;
 use std::collections::BTreeSet;
-use tup_access::{Verdict, judge};
+use tup_access::{Inputs, Verdict, judge};
 use tup_path::{Files, Items, Path};
 use tup_rule::Rule;
 use tup_runner::{RunFailed, Runner, perform};
@@ -31,11 +31,13 @@ pub(crate) fn run<R: Runner>(
         → RunsOne (command_of rule.now) (R.ran runner.old) (R.ran runner.new) result }
     ensures cause { CountsFaults (R.faults runner.old) (R.faults runner.new) result }
 {
+    let inputs = Inputs::of(alloc, rule)?;
     let mut view = FileView {
         sight: Sight {
             rules,
             generated,
             rule,
+            inputs: &inputs,
             tree,
         },
         asked: 0,

@@ -4,12 +4,14 @@ ghost use Rattle.tup_access.specs.declared.verdict.Verdict.{Verdict as VerdictVa
 ghost use Rattle.tup_access.specs.declared.verdict.Access.TheVariants.{No};
 ghost use Rattle.tup_access.specs.Access.{access as access_of};
 ghost use Rattle.tup_access.specs.Generated.{IsGenerated};
+ghost use Rattle.tup_access.specs.Inputs.{AreInputs};
 ghost use Rattle.tup_access.specs.Verdict.{answer as answer_of};
+ghost use Rattle.tup_clean.specs.Reads.{AreInputs-prop};
 
 use crate::tree::FileTree;
 use std::alloc::{AllocError, Global};
 use std::collections::BTreeSet;
-use tup_access::{Access, Verdict, allowed};
+use tup_access::{Access, Inputs, Verdict, allowed};
 use tup_path::{Path, Text};
 use tup_rule::Rule;
 use tup_runner::{Answer, Stamped, View, ViewFailed};
@@ -21,6 +23,8 @@ pub(crate) struct Sight<'a> {
     /// What the rules make.
     pub generated: &'a BTreeSet<Path>,
     pub rule: &'a Rule,
+    /// What the rule declares.
+    pub inputs: &'a Inputs,
     pub tree: &'a FileTree,
 }
 
@@ -33,6 +37,7 @@ pub(crate) struct FileView<'a> {
     /// What was denied, and the verdict that this is.
     pub denied: Option<(Text, Verdict)>,
     ghost knows: { IsGenerated sight.rules.now sight.generated.now },
+    ghost reads: { AreInputs sight.rule.now sight.inputs.now } by { AreInputs-prop sight.rule.now sight.inputs.now },
     ghost denies: { (text : List ℕ) (verdict : VerdictValue) → denied ≡ Some (text, verdict)
         → access_of sight.rules.now sight.rule.now asked text ≡ No verdict },
 }
@@ -79,6 +84,7 @@ impl View for FileView<'_> {
         match allowed(
             alloc,
             self.sight.rule,
+            self.sight.inputs,
             self.sight.generated,
             text,
             self.asked,

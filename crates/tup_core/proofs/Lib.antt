@@ -21,3 +21,4 @@ mod MachineLaws
 mod StepLaws
 mod SameLaws
 pub mod ReadingLaws
+mod Inputs

@@ -9,6 +9,7 @@ use Rattle.tup_path.specs.Name.{Names}
 use Rattle.tup_stamp.specs.declared.Stamp.{Stamp}
 use Rattle.tup_access.specs.declared.verdict.Verdict.{Verdict}
 use Rattle.tup_access.specs.Generated.{IsGenerated}
+use Rattle.tup_access.specs.Inputs.{AreInputsOfAll}
 use Rattle.tup_clean.proofs.Places.{some_place}
 use Rattle.tup_core.specs.declared.event.Cause.{Cause}
 use Rattle.tup_core.specs.declared.plan.Plan.{Plan}
@@ -80,6 +81,7 @@ pub record IsOpening (plan : Plan) (files : List (Names × Stamp)) (core : Core)
   pub seats : core.seats.items ≡ replicate 16 None
   pub bad : core.bad.items ≡ replicate (length plan.rules) None
   pub generated : IsGenerated plan.rules core.generated
+  pub inputs : AreInputsOfAll plan.rules core.inputs.items
   pub files_in : (path : Names) → stamp_in core.files path ≡ with_stamps (λ _. None) files path
   pub room : HasRoomFor plan.rules core.files
   pub going : core.stopped ≡ None
@@ -91,6 +93,7 @@ opened_core plan files core made = record {
   bad = ap length made.bad ∙ length_none Verdict (length plan.rules);
   seats = ap length made.seats ∙ length_none Running 16;
   generated = made.generated;
+  inputs = made.inputs;
   room = made.room;
   waiting = subst (λ (reached : ℕ → Bool). IsWaiting plan.rules reached core.pending.items core.waiting) (λ i at. made.pending at i) made.waiting;
   reached = λ at up. sym (made.pending at) ∙ up;

@@ -15,6 +15,7 @@ use Rattle.tup_stamp.specs.declared.Stamp.{Stamp}
 use Rattle.tup_stamp.specs.Stamp.{stamp}
 use Rattle.tup_rule.specs.declared.rule.Rule.{Rule}
 use Rattle.tup_rule.specs.Rule.{writes, is_generated}
+use Rattle.tup_access.proofs.Reading.{may_declared, may_plain}
 use Rattle.tup_rule.specs.Producer.{DeclaredProducer}
 use Rattle.tup_rule.proofs.Laws.{maker-Some, writes-at, producer-one, producer-trans}
 use Rattle.tup_record.specs.declared.run.RunRecord.{RunRecord}
@@ -46,15 +47,6 @@ may_own true true true is = refl
 may_own true false true is = refl
 may_own false declared true is = refl
 may_own generated declared false is = absurd (false≢true is)
-
-may_declared : (generated declared own : Bool) → declared ≡ true → not (generated && not declared && not own) ≡ true
-may_declared true true own is = refl
-may_declared false true own is = refl
-may_declared generated false own is = absurd (false≢true is)
-
-may_plain : (generated declared own : Bool) → generated ≡ false → not (generated && not declared && not own) ≡ true
-may_plain false declared own is = refl
-may_plain true declared own is = absurd (true≢false is)
 
 -- ---- a record, read again over a tree
 

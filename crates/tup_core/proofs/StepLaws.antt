@@ -79,6 +79,7 @@ core_seats plan old from is claimed seats running = record {
   bad = is.bad;
   seats = seats;
   generated = is.generated;
+  inputs = is.inputs;
   room = is.room;
   waiting = is.waiting;
   reached = is.reached;
@@ -319,6 +320,7 @@ module _ (plan : Plan) (old : Core) (seat at : ℕ) (written : List (Names × St
     bad = is.bad;
     seats = ap length seats ∙ length-set old.seats.items seat None ∙ is.seats;
     generated = is.generated;
+    inputs = is.inputs;
     room = λ path made. room path ∙ is.room path made;
     waiting = waiting;
     reached = λ other up. elim (cases_eq other at) [
@@ -400,6 +402,7 @@ finished_bad plan old from seat at verdict written done is bad ends seats bads s
       bad = ap length bads ∙ length-set old.bad.items at (Some verdict) ∙ is.bad;
       seats = ap length seats ∙ length-set old.seats.items seat None ∙ is.seats;
       generated = is.generated;
+      inputs = is.inputs;
       room = is.room;
       waiting = is.waiting;
       reached = is.reached;

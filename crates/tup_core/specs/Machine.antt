@@ -4,6 +4,7 @@ use Rattle.tup_stamp.specs.declared.Stamp.{Stamp}
 use Rattle.tup_path.specs.Name.{Names}
 use Rattle.tup_rule.specs.declared.rule.Rule.{Rule}
 use Rattle.tup_access.specs.Generated.{IsGenerated}
+use Rattle.tup_access.specs.Inputs.{AreInputsOfAll}
 use Rattle.tup_access.specs.declared.verdict.Verdict.{Verdict}
 use Rattle.tup_access.specs.declared.verdict.Verdict.TheVariants.{Good}
 use Rattle.tup_core.specs.declared.event.CoreEvent.{CoreEvent}
@@ -41,14 +42,15 @@ ready_test core at = is_none core.stopped && flag core.pending.items at && not (
 abbrev pub IsSettled : Plan → Core → ℕ → Type 0
 IsSettled plan core at = (at < length plan.rules) × (number core.waiting.waits.items at ≡ 0)
 
--- what a core keeps for its plan: a place for each rule, 16 seats, the set of outputs with room for their stamps, and
--- what rules wait for; what runs, and what was reached and is pending no longer, waits for none
+-- what a core keeps for its plan: a place for each rule, 16 seats, the set of outputs with room for their stamps, what
+-- rules declare, and what they wait for; what runs, and what was reached and is pending no longer, waits for none
 pub record IsCore (plan : Plan) (core : Core) : Type 0 where
   pub pending : length core.pending.items ≡ length plan.rules
   pub claimed : length core.claimed.items ≡ length plan.rules
   pub bad : length core.bad.items ≡ length plan.rules
   pub seats : length core.seats.items ≡ 16
   pub generated : IsGenerated plan.rules core.generated
+  pub inputs : AreInputsOfAll plan.rules core.inputs.items
   pub room : HasRoomFor plan.rules core.files
   pub waiting : IsWaiting plan.rules (is_reached plan) core.pending.items core.waiting
   pub reached : (at : ℕ) → flag core.pending.items at ≡ true → is_reached plan at ≡ true

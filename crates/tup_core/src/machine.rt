@@ -4,6 +4,8 @@ ghost use Rattle.tup_rule.specs.declared.rule.Rule.{Rule as RuleValue};
 ghost use Rattle.tup_core.specs.declared.running.Running.{Running as RunningValue};
 ghost use Rattle.tup_access.specs.Access.{access as access_of};
 ghost use Rattle.tup_access.specs.Generated.{IsGenerated};
+ghost use Rattle.tup_access.specs.Inputs.{AreInputs};
+ghost use Rattle.tup_access.specs.declared.inputs.Inputs.{Inputs as InputsValue};
 ghost use Rattle.tup_core.specs.Step as specs;
 ghost use Rattle.tup_core.specs.Step.{IsReady, opening, CanAsk, CanDeny, CanFinish};
 ghost use Rattle.tup_core.specs.Sound.{IsInRange};
@@ -20,11 +22,11 @@ use crate::files::FileStamps;
 use crate::plan::Plan;
 use crate::running::{Running, ask_at, deny_at};
 use crate::same::{is_bad, same_answer, same_verdict};
-use crate::start::{is_up, lowered, nothing, reached};
+use crate::start::{inputs_of_all, is_up, lowered, nothing, reached};
 use crate::waiting::Waiting;
 use std::alloc::Global;
 use std::collections::BTreeSet;
-use tup_access::{Access, MAX_ASKS, Verdict, allowed};
+use tup_access::{Access, Inputs, MAX_ASKS, Verdict, allowed};
 use tup_clean::generated;
 use tup_path::{Path, Text};
 use tup_rule::Rule;
@@ -37,6 +39,8 @@ const SEATS: usize = 16;
 #[derive(Drop)]
 pub struct Core {
     generated: BTreeSet<Path>,
+    /// What each rule of the reach declares.
+    inputs: Vec<Inputs>,
     waiting: Waiting,
     pending: Vec<bool>,
     claimed: Vec<bool>,
@@ -60,6 +64,7 @@ impl Core {
         let pending = reached(alloc, plan)?;
         Ok(Core {
             generated: generated(alloc, rules)?,
+            inputs: inputs_of_all(alloc, rules, &pending)?,
             waiting: Waiting::new(alloc, rules, &pending)?,
             pending,
             claimed: lowered(alloc, rules.len())?,
@@ -240,13 +245,36 @@ impl Core {
         text: &Text,
     ) -> Result<Access, CoreFault>
         ensures ok { (rules : List RuleValue) → IsGenerated rules self.now.generated
+            → ((inputs : InputsValue)
+            → slice_get self.now.inputs.items running.now.rule ≡ Some inputs
+            → AreInputs rule.now inputs)
             → IfOk result (λ given. given
+            ≡ access_of rules rule.now (length running.now.asks) text.now) }
+        ensures memory { IfErr result (λ fault. fault ≡ CoreFault.Memory) }
+    {
+        match self.inputs.get(running.rule as usize) {
+            Some(inputs) => self.access_by(alloc, rule, inputs, running, text),
+            None => self.access_by(alloc, rule, &Inputs::few(), running, text),
+        }
+    }
+
+    /// The same, where this is what the rule declares.
+    fn access_by(
+        &self,
+        alloc: Global,
+        rule: &Rule,
+        inputs: &Inputs,
+        running: &Running,
+        text: &Text,
+    ) -> Result<Access, CoreFault>
+        ensures ok { (rules : List RuleValue) → IsGenerated rules self.now.generated
+            → AreInputs rule.now inputs.now → IfOk result (λ given. given
             ≡ access_of rules rule.now (length running.now.asks) text.now) }
         ensures memory { IfErr result (λ fault. fault ≡ CoreFault.Memory) }
     {
         // whoever asked as often may ask no more
         let asked = running.asks.len().min(MAX_ASKS as usize) as u32;
-        Ok(allowed(alloc, rule, &self.generated, text, asked)?)
+        Ok(allowed(alloc, rule, inputs, &self.generated, text, asked)?)
     }
 
     /// What a rule's command is answered for a path.

@@ -1,11 +1,14 @@
 //! What stands at an opening.
 ghost use Rattle.std.specs.Prelude.{◌≡◌, ℕ, false, None, IfOk, length, replicate};
+ghost use Rattle.tup_access.specs.Inputs.{AreInputs, AreInputsOfAll};
 ghost use Rattle.tup_core.specs.Step.{is_reached};
 ghost use Rattle.tup_core.specs.Sound.{IsInRange};
 ghost use Rattle.tup_core.specs.Waiting.{flag};
 
 use crate::plan::Plan;
 use std::alloc::{AllocError, Global};
+use tup_access::Inputs;
+use tup_rule::Rule;
 
 /// Flags that are all down.
 pub(crate) fn lowered(alloc: Global, count: usize) -> Result<Vec<bool>, AllocError>
@@ -47,4 +50,29 @@ pub(crate) fn is_up(flags: &[bool], at: usize) -> bool
     ensures { result ≡ flag flags.now at }
 {
     flags.get(at).copied().unwrap_or(false)
+}
+
+/// What each rule declares, as its command asks for it, for those whose flag is up.
+pub(crate) fn inputs_of_all(
+    alloc: Global,
+    rules: &[Rule],
+    flags: &[bool],
+) -> Result<Vec<Inputs>, AllocError>
+    ensures { IfOk result (λ all. AreInputsOfAll rules.now all.items) }
+{
+    let mut all = Vec::new(alloc);
+    for (at, rule) in rules.iter().enumerate() {
+        all.push(inputs_if(alloc, rule, is_up(flags, at))?)?;
+    }
+    Ok(all)
+}
+
+/// What a rule declares, where somebody will ask.
+fn inputs_if(alloc: Global, rule: &Rule, asked: bool) -> Result<Inputs, AllocError>
+    ensures { IfOk result (AreInputs rule.now) }
+{
+    if asked {
+        return Inputs::of(alloc, rule);
+    }
+    Ok(Inputs::few())
 }

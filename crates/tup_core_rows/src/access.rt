@@ -5,7 +5,7 @@ use std::alloc::Global;
 use std::collections::BTreeSet;
 use std::fs::Files;
 use std::io;
-use tup_access::{Access, Verdict, allowed, judge};
+use tup_access::{Access, Inputs, Verdict, allowed, judge};
 use tup_path::{Bytes, Items, Path, Text};
 use tup_rows::{Answers, RowFault, Words, try_file};
 use tup_rule::Rule;
@@ -80,7 +80,14 @@ fn access_after(
     (rule, made): (&Rule, &BTreeSet<Path>),
     before: u32,
 ) -> Words {
-    match allowed(alloc, rule, made, &said.text_at(alloc, 0), before) {
+    match allowed(
+        alloc,
+        rule,
+        &Inputs::few(),
+        made,
+        &said.text_at(alloc, 0),
+        before,
+    ) {
         Ok(Access::Yes(path)) => yes(alloc, &path),
         Ok(Access::No(verdict)) => told(alloc, &verdict),
         Err(_) => Words::none(alloc, RowFault::Memory),

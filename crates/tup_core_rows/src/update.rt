@@ -5,7 +5,7 @@ use crate::sources::{Contents, are_those_of, contents, put};
 use std::alloc::{AllocError, Global};
 use std::collections::BTreeSet;
 use std::mem;
-use tup_access::{Access, Verdict, allowed, judge};
+use tup_access::{Access, Inputs, Verdict, allowed, judge};
 use tup_clean::generated;
 use tup_core::CoreEvent;
 use tup_given::Project;
@@ -119,7 +119,14 @@ impl Update {
 
     /// A command asks, and is answered, or ends by that.
     fn ask(&mut self, alloc: Global, seat: u32, job: &mut Job, text: Text) -> bool {
-        match allowed(alloc, &job.rule, &self.made, &text, job.asked()) {
+        match allowed(
+            alloc,
+            &job.rule,
+            &Inputs::few(),
+            &self.made,
+            &text,
+            job.asked(),
+        ) {
             Ok(Access::Yes(path)) => self.answer(seat, job, text, &path),
             Ok(Access::No(verdict)) => self.deny(alloc, seat, &text, verdict),
             Err(_) => self.fails(RowFault::Memory),

@@ -1,6 +1,7 @@
 use Rattle.std.proofs.Common.{Bool, List, Option, None, length, replicate, false, ◌∙◌, ap, subst, refl}
 use Rattle.tup_rule.specs.declared.rule.Rule.{Rule}
 use Rattle.tup_access.specs.Generated.{IsGenerated}
+use Rattle.tup_access.specs.Inputs.{AreInputsOfAll}
 use Rattle.tup_access.specs.declared.verdict.Verdict.{Verdict}
 use Rattle.tup_core.specs.Waiting.{flag, IsWaiting}
 use Rattle.tup_core.specs.Files.{HasRoomFor}
@@ -9,6 +10,7 @@ use Rattle.tup_core.proofs.machine.Core.new.Goals as goal
 
 made : (c : goal.In_ok-nothing-2) → IsOpening c.args.plan.now c.args.files (record {
   generated = c.in_ok-generated.field-0;
+  inputs = c.in_ok-inputs_of_all.field-0;
   waiting = c.in_ok-new.field-0;
   pending = c.in_ok-pending.pending;
   claimed = c.in_ok-lowered.field-0;
@@ -22,11 +24,12 @@ made c = record {
   pending = c.in_ok-pending.ensures.flags;
   waiting =
       subst (λ (r : List Rule). IsWaiting r (flag c.in_ok-pending.pending.items) c.in_ok-pending.pending.items c.in_ok-new.field-0) c.as_slice-rules.ensures
-      (subst (λ (l : List Bool). IsWaiting c.as_slice-rules.result.now (flag l) l c.in_ok-new.field-0) c.deref.ensures.value c.in_ok-new.ensures);
+      (subst (λ (l : List Bool). IsWaiting c.as_slice-rules.result.now (flag l) l c.in_ok-new.field-0) c.deref-2.ensures.value c.in_ok-new.ensures);
   claimed = c.in_ok-lowered.ensures ∙ ap (λ (r : List Rule). replicate (length r) false) c.as_slice-rules.ensures;
   seats = c.in_ok-nothing.ensures;
   bad = c.in_ok-nothing-2.ensures ∙ ap (λ (r : List Rule). replicate (length r) (let none : Option Verdict = None in none)) c.as_slice-rules.ensures;
   generated = subst (λ (r : List Rule). IsGenerated r c.in_ok-generated.field-0) c.as_slice-rules.ensures c.in_ok-generated.ensures;
+  inputs = subst (λ (r : List Rule). AreInputsOfAll r c.in_ok-inputs_of_all.field-0.items) c.as_slice-rules.ensures c.in_ok-inputs_of_all.ensures;
   files_in = c.in_ok-new-2.ensures.stamps;
   room = subst (λ (r : List Rule). HasRoomFor r c.in_ok-new-2.field-0) c.as_slice-rules.ensures c.in_ok-new-2.ensures.room;
   going = refl;

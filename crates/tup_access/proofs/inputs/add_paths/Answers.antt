@@ -1,5 +1,5 @@
-use Rattle.tup_clean.proofs.Outputs.{added}
-use Rattle.tup_clean.proofs.made.add_all.Goals as goal
+use Rattle.tup_access.proofs.Adding.{added}
+use Rattle.tup_access.proofs.inputs.add_paths.Goals as goal
 
 pub loop-path-preserved : goal.loop-path-preserved
 loop-path-preserved c = λ path.
