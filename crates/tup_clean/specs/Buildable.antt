@@ -2,7 +2,7 @@
 use Rattle.std.specs.Prelude.{◌≡◌, ◌≢◌, ℕ, List, [], None, Some, slice_get, IsSome, Contains}
 use Rattle.std.specs.FinMap as finite
 use Rattle.std.specs.List.{IsDistinct}
-use Rattle.tup_path.specs.Name.{Names, IsPath}
+use Rattle.tup_path.specs.Name.{Names}
 use Rattle.tup_path.specs.Order.{same_path}
 use Rattle.tup_path.specs.Tree.{Tree, IsBelow}
 use Rattle.tup_rule.specs.declared.rule.Rule.{Rule}
@@ -18,7 +18,8 @@ NoneWaitsForItself rules = (at : ℕ) (rule : Rule) → slice_get rules at ≡ S
 
 -- what the reading of a project promises of its rules
 pub record IsBuildable (sources : Tree) (rules : List Rule) : Type 0 where
-  pub paths : (at : ℕ) (path : Names) → IsOutputAt rules at path → IsPath path × (path ≢ [])
+  -- no output is the top folder
+  pub not_top : (at : ℕ) (path : Names) → IsOutputAt rules at path → path ≢ []
   -- no rule names an output twice
   pub once : (at : ℕ) (rule : Rule) → slice_get rules at ≡ Some rule → IsDistinct same_path rule.outputs
   -- no output is a source, and no path is an output of two rules

@@ -1,5 +1,5 @@
 -- Two things to which the sources of one project come.
-use Rattle.std.proofs.Common.{◌≡◌, ◌⊎◌, inl, inr, List, Option, Some, None, Result, Ok, Err, refl, sym, ap, ◌∙◌, subst}
+use Rattle.std.proofs.Common.{◌≡◌, ◌⊎◌, inl, inr, List, Some, None, Result, Ok, Err, refl, sym, ap, ◌∙◌, subst}
 use Rattle.tup_path.specs.Name.{Names}
 use Rattle.tup_path.specs.Tree.{Tree}
 use Rattle.tup_lex.specs.declared.kind.ParseKind.{ParseKind}
@@ -15,7 +15,7 @@ use Rattle.tup_readings.proofs.Outcomes.{outcomes_alike}
 use Rattle.tup_link.specs.declared.fault.LinkFault.{LinkFault}
 use Rattle.tup_link.specs.declared.fault.LinkFault.TheVariants as linking
 use Rattle.tup_link.specs.Circle.{NoneWaitsForItself, names_at}
-use Rattle.tup_link.specs.Faults.{HasCause, early_fault}
+use Rattle.tup_link.specs.Faults.{HasCause}
 use Rattle.tup_link.specs.Linked.{rules_of}
 use Rattle.tup_project.specs.declared.fault.ProjectFault.{ProjectFault}
 use Rattle.tup_project.specs.declared.fault.ProjectFault.TheVariants.{Parse, CircularDirs, CircularCommands, NoSuchGroup, TooMany, Memory}

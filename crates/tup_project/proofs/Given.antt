@@ -1,5 +1,5 @@
 -- The rules that the readings of all folders come to: each makes in its own folder what no rule before it makes.
-use Rattle.std.proofs.Common.{◌≡◌, ◌⊎◌, inl, inr, ℕ, Bool, true, false, cond, ◌&&◌, ◌||◌, List, [], ◌∷◌, ◌++◌, map, Option, Some, None, Result, Ok, Err, IsTrue, refl, sym, ap, ◌∙◌, subst, append_assoc, append-nil}
+use Rattle.std.proofs.Common.{◌≡◌, inl, inr, ℕ, Bool, true, false, cond, ◌||◌, List, [], ◌∷◌, ◌++◌, map, Some, None, Result, Ok, Err, IsTrue, refl, sym, ap, ◌∙◌, subst, append_assoc, append-nil}
 use Rattle.std.specs.Bool.{passes}
 use Rattle.std.specs.FinMap as finite
 use Rattle.std.specs.FinMap.Entries.{below_all}
@@ -28,9 +28,8 @@ use Rattle.tup_readings.proofs.One.{of_tupfiles}
 use Rattle.tup_link.specs.Groups.{members}
 use Rattle.tup_link.specs.Linked.{Members, rule_of, rules_of}
 use Rattle.tup_link.specs.Placed.{placed_in, placed, drafts_of}
-use Rattle.tup_project.specs.Paths.{HavePaths}
 use Rattle.tup_project.specs.Project.{AreLinked}
-use Rattle.tup_project.proofs.Making.{MakesHere, AllMakeHere, AllKeepTo, all_keep}
+use Rattle.tup_project.proofs.Making.{MakesHere, AllMakeHere, all_keep}
 use Rattle.tup_project.proofs.Standing.{IsNew, AreNew, new_append, same_front, can_stand}
 
 -- ---- paths and their order
@@ -183,8 +182,8 @@ module _ (sources : Tree) (readings : List (Names × Reading)) (rules : List Rul
       subst (AreNew sources []) (sym linked.are)
       (all_new sources group_has [] readings up (each_keeps sources group_has readings up each) (apart_from_none sources group_has readings))
 
-  pub linked_stand : IsOutcome sources (Ok readings) → AreLinked readings rules → HavePaths rules → IsTree sources → IsBuildable sources rules
-  linked_stand read linked have tree = can_stand sources rules (by (settings_of sources) read) tree have linked.order
+  pub linked_stand : IsOutcome sources (Ok readings) → AreLinked readings rules → IsTree sources → IsBuildable sources rules
+  linked_stand read linked tree = can_stand sources rules (by (settings_of sources) read) tree linked.order
     where
       by : (found : Result Entries ConfigFault) → AreReadWith sources found (Ok readings) → AreNew sources [] rules
       by (Ok settings) is = read_new settings is.0 is.1 linked

@@ -1,5 +1,5 @@
 -- Rules of which each makes what no rule before it makes, in its own folder, where nothing stands.
-use Rattle.std.proofs.Common.{◌≡◌, ◌≢◌, ◌⊎◌, inl, inr, ℕ, zero, suc, ◌+◌, ◌<◌, Bool, true, false, ◌||◌, List, [], ◌∷◌, ◌++◌, length, take, get_or, codes, Option, Some, None, IsSome, is_some, All, refl, sym, ap, ◌∙◌, subst, append_assoc, append-nil, arith, length-append}
+use Rattle.std.proofs.Common.{◌≡◌, ◌≢◌, inl, inr, ℕ, zero, suc, ◌+◌, ◌<◌, true, false, List, [], ◌∷◌, ◌++◌, length, take, codes, Some, IsSome, All, refl, sym, ap, ◌∙◌, subst, append_assoc, append-nil, arith}
 use Rattle.std.specs.FinMap as finite
 use Rattle.std.specs.List.{Contains, IsDistinct, slice_get}
 use Rattle.std.specs.Ordering.{eq_by_cmp}
@@ -11,7 +11,7 @@ use Rattle.std.proofs.lemmas.List.Folds.{list_any_at}
 use Rattle.std.proofs.lemmas.Map.Views.{Contains-from_any}
 use Rattle.std.proofs.lemmas.Option.{get_or_from_slice_get, none-some, same_Some, slice_get_within}
 use Rattle.std.proofs.lemmas.Slice.Eq.{bytes_eq-Decides}
-use Rattle.tup_path.specs.Name.{Names, IsPath}
+use Rattle.tup_path.specs.Name.{Names}
 use Rattle.tup_path.specs.Order.{by_names, same_path, same_path-by_names}
 use Rattle.tup_path.specs.Tree.{Tree, IsTree, IsBelow}
 use Rattle.tup_path.proofs.Same.{same_path-decides}
@@ -22,7 +22,6 @@ use Rattle.tup_clean.proofs.Among.{among-Contains}
 use Rattle.tup_readings.specs.Sources.{is_source, has_below, has_tupfile, is_below, tupfile}
 use Rattle.tup_readings.proofs.Below.{last_item, lasts}
 use Rattle.tup_readings.proofs.Indexed.{none_there}
-use Rattle.tup_project.specs.Paths.{HavePaths}
 
 -- ---- paths
 
@@ -31,9 +30,9 @@ same_front dir other name more e =
     let same : name ≡ more = lasts dir other name more e in
     append_cancel_right dir other (name ∷ []) (e ∙ ap (λ (n : List ℕ). other ++ n ∷ []) (sym same))
 
-not_top : (dir : Names) (name : List ℕ) → dir ++ name ∷ [] ≡ [] → ⊥
-not_top [] name e = cc
-not_top (first ∷ dir) name e = cc
+not_empty : (dir : Names) (name : List ℕ) → dir ++ name ∷ [] ≡ [] → ⊥
+not_empty [] name e = cc
+not_empty (first ∷ dir) name e = cc
 
 below_appended : (folder rest : Names) → rest ≢ [] → is_below folder (folder ++ rest) ≡ true
 below_appended [] [] some = absurd (some refl)
@@ -52,7 +51,7 @@ below_own file dir path name other own (rest, some, is) = elim (last_item rest) 
       let last = ends.1 in
       let e : dir ++ name ∷ [] ≡ (file ++ front) ++ last ∷ [] = sym own ∙ is ∙ ap (λ (r : Names). file ++ r) ends.2 ∙ sym (append_assoc file front (last ∷ [])) in
       let up : dir ≡ file ++ front = same_front dir (file ++ front) name last e in
-      (front ++ other ∷ [], not_top front other, ap (λ (d : Names). d ++ other ∷ []) up ∙ append_assoc file front (other ∷ []))
+      (front ++ other ∷ [], not_empty front other, ap (λ (d : Names). d ++ other ∷ []) up ∙ append_assoc file front (other ∷ []))
 ]
 
 module _ (sources : Tree) where
@@ -126,17 +125,12 @@ module _ (sources : Tree) where
       ]
     ]
 
-    path_at : HavePaths rules → (at : ℕ) (path : Names) → IsOutputAt rules at path → IsPath path
-    path_at have at path (rule, here, has) =
-        let all : All IsPath rule.outputs = subst (λ (r : Rule). All IsPath r.outputs) (get_or_from_slice_get rules at rule rule here) (have at rule (slice_get_within rules at rule here)) in
-        All-contains IsPath rule.outputs path all has
-
     above_no_source : (at : ℕ) (path file : Names) → IsOutputAt rules at path → IsSome (finite.get sources file) → IsBelow path file → ⊥
     above_no_source at path file output some below = both_ways (has_below (finite.keys sources) path) (new_at at path output).no_folder (source_below path file some below)
 
-    pub can_stand : IsTree sources → HavePaths rules → NoneWaitsForItself rules → IsBuildable sources rules
-    can_stand tree have order = record {
-      paths = λ at path output. let new = new_at at path output in (path_at have at path output, λ top. not_top (output.0).dir new.name (sym new.own ∙ top));
+    pub can_stand : IsTree sources → NoneWaitsForItself rules → IsBuildable sources rules
+    can_stand tree order = record {
+      not_top = λ at path output. let new = new_at at path output in λ top. not_empty (output.0).dir new.name (sym new.own ∙ top);
       once = λ at rule here. once_at [] rules at rule are here;
       no_source = λ at path output. none_there (finite.get sources path) (new_at at path output).no_source;
       one_maker = one_place;

@@ -1,5 +1,5 @@
 -- What is told of the faults of folders and of linking.
-use Rattle.std.proofs.Common.{◌≡◌, inl, inr, List, Result, Ok, Err, refl}
+use Rattle.std.proofs.Common.{inl, inr, List, Result, Ok, Err, refl}
 use Rattle.std.specs.Result.{IfErr, IfOk}
 use Rattle.tup_path.specs.Name.{Names}
 use Rattle.tup_path.specs.Tree.{IsTree, Tree}

@@ -1,4 +1,3 @@
 pub mod Fault
 pub mod Project
-pub mod Paths
 pub mod Laws

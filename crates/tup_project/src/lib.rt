@@ -7,7 +7,6 @@
 
 mod fault;
 mod laws;
-mod paths;
 mod project;
 
 pub use fault::ProjectFault;

@@ -9,7 +9,6 @@ ghost use Rattle.tup_project.specs.Fault.{IsOfLinking};
 ghost use Rattle.tup_project.specs.Project.{AreLinked, ComeTo};
 
 use crate::fault::ProjectFault;
-use crate::paths::know_outputs;
 use std::alloc::Global;
 use tup_link::link;
 use tup_path::{Files, Path};
@@ -48,6 +47,5 @@ pub fn link_all(alloc: Global, readings: &[(Path, Reading)]) -> Result<Rules, Pr
     ensures cause { IfErr result (IsOfLinking readings.now) }
 {
     let rules = link(alloc, readings)?;
-    know_outputs(rules.as_slice());
     Ok(rules)
 }

@@ -1,6 +1,4 @@
-use Rattle.std.proofs.Common.{◌≡◌, subst}
 use Rattle.std.proofs.lemmas.Result.{err_from_is_err_and}
-use Rattle.tup_project.specs.Paths.{HavePaths}
 use Rattle.tup_project.specs.Project.{AreLinked}
 use Rattle.tup_project.proofs.Given.{linked_stand}
 use Rattle.tup_project.proofs.Told.{linking_told}
@@ -13,7 +11,7 @@ pub returns-clause-buildable : goal.returns-clause-buildable
 returns-clause-buildable c = λ sources read tree.
     let rules = c.in_ok-rules.rules in
     let linked : AreLinked c.args.readings.now rules = record { are = c.in_ok-rules.ensures.rules; early = c.in_ok-rules.ensures.early; order = c.in_ok-rules.ensures.order } in
-    linked_stand sources c.args.readings.now rules read linked (subst HavePaths c.as_slice.ensures c.know_outputs.ensures) tree
+    linked_stand sources c.args.readings.now rules read linked tree
 
 pub returns-in_err-rules-clause-fault : goal.returns-in_err-rules-clause-fault
 returns-in_err-rules-clause-fault c =

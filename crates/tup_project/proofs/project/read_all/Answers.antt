@@ -1,6 +1,5 @@
-use Rattle.std.proofs.Common.{List, Result, Ok, Err, sym, subst}
+use Rattle.std.proofs.Common.{List, Ok, sym, subst}
 use Rattle.std.specs.FinMap as finite
-use Rattle.std.specs.Result.{IfOk}
 use Rattle.tup_path.specs.Name.{Names}
 use Rattle.tup_rule.specs.declared.question.Reading.{Reading}
 use Rattle.tup_readings.specs.Readings.{IsOutcome}
