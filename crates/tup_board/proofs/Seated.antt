@@ -1,24 +1,23 @@
 -- What seats run in a run, and that a file which a command may read is no output that is still to be made.
-use Rattle.std.proofs.Common.{◌≡◌, ℕ, zero, suc, ◌<◌, Bool, true, false, not, ◌&&◌, List, [], ◌∷◌, length, None, Some, refl, sym, ap, ◌∙◌, subst, inl, inr, arith}
+use Rattle.std.proofs.Common.{◌≡◌, ℕ, zero, suc, ◌<◌, true, false, List, [], ◌∷◌, length, None, Some, refl, sym, ◌∙◌, subst, inl, inr, arith}
 use Rattle.std.specs.Prelude.{slice_get}
-use Rattle.std.proofs.lemmas.Bool.{true≢false, cases_Bool}
+use Rattle.std.proofs.lemmas.Bool.{true≢false}
 use Rattle.std.proofs.lemmas.Option.{none-some}
 use Rattle.tup_path.specs.Name.{Names}
 use Rattle.tup_stamp.specs.declared.Stamp.{Stamp}
 use Rattle.tup_rule.specs.declared.rule.Rule.{Rule}
-use Rattle.tup_rule.specs.Rule.{declares, writes, is_generated}
-use Rattle.tup_rule.proofs.Laws.{is_generated-at, maker-Some}
+use Rattle.tup_rule.specs.Rule.{writes}
 use Rattle.tup_access.specs.Access.{may_read}
-use Rattle.tup_clean.proofs.Among.{is_generated-maker}
 use Rattle.tup_core.specs.declared.event.CoreEvent.{CoreEvent}
 use Rattle.tup_core.specs.declared.event.CoreEvent.TheVariants.{Claim, Ask, Deny, Finish, Stop}
 use Rattle.tup_core.specs.declared.plan.Plan.{Plan}
 use Rattle.tup_core.specs.declared.running.Running.{Running}
 use Rattle.tup_core.specs.Run.{IsRun, end_of}
 use Rattle.tup_core.specs.Sound.{HasOneMaker, IsInRange}
-use Rattle.tup_core.specs.Step.{State, Runs, IsClear, IsEnabled, after, asked, emptied, ended, is_reached, opening, refused}
+use Rattle.tup_core.specs.Step.{State, Runs, IsEnabled, after, asked, emptied, ended, opening, refused}
 use Rattle.tup_core.proofs.Changed.{changed_cases}
 use Rattle.tup_core.proofs.Orderly.{IsOrderly, orderly_after, orderly_opening, finished_is, same_rule, seat_emptied, seats_ended}
+use Rattle.tup_core.proofs.Standing.{not_written}
 use Rattle.tup_board.specs.Outputs.{IsPending}
 
 -- ---- seats of a run are below 16
@@ -58,27 +57,6 @@ seated_run plan (event ∷ events) state seated (enabled, run) = seated_run plan
 orderly_run : (plan : Plan) (events : List CoreEvent) (state : State) → IsOrderly plan state → IsRun plan state events → IsOrderly plan (end_of plan state events)
 orderly_run plan [] state orderly run = orderly
 orderly_run plan (event ∷ events) state orderly (enabled, run) = orderly_run plan events (after plan state event) (orderly_after plan state event orderly enabled) run
-
--- a path that a clear rule may read, and doesn't write, is no output of a pending rule of the reach
-not_written : (plan : Plan) (state : State) (rule other : Rule) (at : ℕ) (path : Names) → HasOneMaker plan → IsClear plan state rule → is_reached plan at ≡ true → state.pending at ≡ true
-    → slice_get plan.rules at ≡ Some other → may_read plan.rules rule path ≡ true → writes rule path ≡ false → writes other path ≡ false
-not_written plan state rule other at path one clear reached pending here readable foreign =
-    elim (cases_Bool (writes other path)) [
-      | inr apart ↦ apart
-      | inl wrote ↦
-          let any = is_generated-at plan.rules path at other here wrote in
-          let found = is_generated-maker plan.rules path any in
-          let maker = maker-Some plan.rules path found.0 found.1 in
-          let same : at ≡ found.0 = one at found.0 other maker.rule path reached here maker.here wrote maker.writes_it in
-          let declared = must_declare (is_generated plan.rules path) (declares rule path) (writes rule path) any foreign readable in
-          absurd (true≢false (sym pending ∙ clear at (zero, (path, declared, found.1 ∙ ap Some (sym same)))))
-    ]
-  where
-    must_declare : (generated declares own : Bool) → generated ≡ true → own ≡ false → not (generated && not declares && not own) ≡ true → declares ≡ true
-    must_declare true true own g o r = refl
-    must_declare true false true g o r = absurd (true≢false o)
-    must_declare true false false g o r = absurd (true≢false (sym r))
-    must_declare false declares own g o r = absurd (true≢false (sym g))
 
 module _ (plan : Plan) (files : List (Names × Stamp)) (events : List CoreEvent) (run : IsRun plan (opening plan files) events) where
   abbrev end : State

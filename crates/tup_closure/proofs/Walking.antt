@@ -13,6 +13,7 @@ use Rattle.tup_rule.specs.declared.rule.Rule.{Rule}
 use Rattle.tup_rule.proofs.Laws.{among-decides}
 use Rattle.tup_graph.specs.Above.{AboveOver, HasAsked, HasReadOf, IsAbove}
 use Rattle.tup_graph.specs.Graph.{GraphState, is_rule, outputs_of}
+use Rattle.tup_readers.proofs.Entries.{none_in}
 use Rattle.tup_closure.specs.Readers.{AreRunsOfRules, HasAskedOneOf}
 use Rattle.tup_closure.specs.Grows.{Grows}
 use Rattle.tup_closure.specs.Walk.{IsReached, IsWaiting, GoesTo, IsDone, IsWalk}
@@ -21,7 +22,6 @@ use Rattle.tup_closure.proofs.Growing.{grows_on, grows_as, grows_nothing}
 use Rattle.tup_closure.proofs.Counting.{counted, sum_inserted}
 use Rattle.tup_closure.proofs.Members.{contained, in_set, in_empty, inserted, few_below, number-decides}
 use Rattle.tup_closure.proofs.Asked.{asked_more}
-use Rattle.tup_closure.proofs.Ordered.{none_in}
 
 -- ---- one way behind another
 

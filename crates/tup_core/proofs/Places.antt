@@ -1,9 +1,10 @@
 -- The first place of a list at which a test passes.
-use Rattle.std.proofs.Common.{◌≡◌, ℕ, zero, suc, ◌<◌, Bool, true, List, [], ◌∷◌, length, get_or, Some, refl, inl, inr, arith}
-use Rattle.std.proofs.lemmas.Bool.{cases_Bool, false≢true, lt-ltb, or_left, or_right}
+use Rattle.std.proofs.Common.{◌≡◌, ℕ, zero, suc, Bool, true, List, [], ◌∷◌, get_or, Some}
+use Rattle.std.proofs.lemmas.Bool.{or_left, or_right}
 use Rattle.std.proofs.lemmas.Option.{same_Some, none-some, slice_get-get_or}
 use Rattle.std.proofs.lemmas.List.Quantifiers.{position-Some}
 use Rattle.std.specs.List.{slice_get, list_any, position, position_or_len}
+use Rattle.tup_clean.proofs.Places.{position_any}
 
 pub record IsFirst {A : Type 0} (p : A → Bool) (xs : List A) : Type 0 where
   pub at : ℕ
@@ -18,18 +19,10 @@ any_at p [] at x here passes = absurd (none-some x here)
 any_at p (y ∷ ys) zero x here passes = or_left (p y) (list_any p ys) (rw (same_Some y x here) passes)
 any_at p (y ∷ ys) (suc at) x here passes = or_right (p y) (list_any p ys) (any_at p ys at x here passes)
 
-any_before : {A : Type 0} (p : A → Bool) (xs : List A) → list_any p xs ≡ true → position_or_len p xs < length xs
-any_before p [] any = absurd (false≢true any)
-any_before p (x ∷ xs) any =
-    elim (cases_Bool (p x)) [
-      | inl passes ↦ rw passes (omega arith)
-      | inr fails ↦ rw fails (let rest = any_before p xs (rw fails at any) in omega arith)
-    ]
-
 pub first_of : {A : Type 0} (p : A → Bool) (xs : List A) (at : ℕ) (x : A) → slice_get xs at ≡ Some x → p x ≡ true → IsFirst p xs
 first_of p xs at x here passes =
     let any = any_at p xs at x here passes in
-    let first : position p xs ≡ Some (position_or_len p xs) = rw (lt-ltb _ _ (any_before p xs any)) refl in
+    let first = position_any p xs any in
     let facts = position-Some p xs (position_or_len p xs) x first in
     record {
       at = position_or_len p xs;

@@ -31,7 +31,7 @@ pub record AllStand (plan : Plan) (state : State) : Type 0 where
 -- ---- who may write what was read
 
 -- a path that a clear rule may read, and doesn't write, is no output of a pending rule of the reach
-not_written : (plan : Plan) (state : State) (rule other : Rule) (at : ℕ) (path : Names) → HasOneMaker plan → IsClear plan state rule →
+pub not_written : (plan : Plan) (state : State) (rule other : Rule) (at : ℕ) (path : Names) → HasOneMaker plan → IsClear plan state rule →
     is_reached plan at ≡ true → state.pending at ≡ true → slice_get plan.rules at ≡ Some other →
     may_read plan.rules rule path ≡ true → writes rule path ≡ false → writes other path ≡ false
 not_written plan state rule other at path one clear reached pending here readable foreign =

@@ -1,10 +1,11 @@
 -- What holds of each file of a tree, and the files of the project.
-use Rattle.std.proofs.Common.{◌≡◌, Bool, true, false, cond, ℕ, List, [], ◌∷◌, length, codes, Option, None, Some, IsSome, is_some, refl, sym, ap, subst, ◌∙◌, arith}
+use Rattle.std.proofs.Common.{◌≡◌, Bool, true, false, cond, List, [], ◌∷◌, codes, Option, None, Some, IsSome, refl, sym, ap, subst, ◌∙◌}
 use Rattle.std.specs.Ordering.{eq_by_cmp}
 use Rattle.std.specs.FinMap as finite
 use Rattle.std.specs.FinMap.{find, put}
+use Rattle.std.proofs.lemmas.List.{nil_from_length}
 use Rattle.tup_path.specs.Name.{Names, Content}
-use Rattle.tup_path.specs.Order.{by_names, same_path, same_path-by_names, by_names-total}
+use Rattle.tup_path.specs.Order.{by_names, same_path-by_names, by_names-total}
 use Rattle.tup_path.specs.Tree.{Tree}
 use Rattle.tup_path.proofs.Same.{same_path-decides}
 use Rattle.tup_demo.specs.Project.{demo_files, demo_source, demo_tree, demo_tupfile}
@@ -36,15 +37,11 @@ content_there None some = cc
 
 -- ---- the project's own
 
-no_length : {A : Type 0} (items : List A) → length items ≡ 0 → items ≡ []
-no_length [] e = refl
-no_length (item ∷ items) e = absurd (omega (arith, e))
-
 abbrev no_files : Tree
 no_files = finite.empty
 
 none_there : finite.entries no_files ≡ []
-none_there = no_length (finite.entries no_files) (sym (finite.len-entries no_files) ∙ finite.len-empty by_names Content)
+none_there = nil_from_length (finite.entries no_files) (sym (finite.len-entries no_files) ∙ finite.len-empty by_names Content)
 
 pub demo_entries : finite.entries demo_tree ≡ demo_files
 demo_entries =

@@ -4,6 +4,7 @@ use Rattle.std.specs.Option.{option_map}
 use Rattle.std.specs.FinMap as finite
 use Rattle.std.proofs.lemmas.List.{get_or-map, length-map}
 use Rattle.std.proofs.lemmas.List.Elements.{All-contains_itself}
+use Rattle.std.proofs.lemmas.Bool.{or_parts}
 use Rattle.tup_path.specs.Name.{Names, Content}
 use Rattle.tup_path.specs.Order.{by_names, same_path, same_path-by_names, by_names-total}
 use Rattle.tup_path.proofs.Same.{same_path-decides}
@@ -45,10 +46,6 @@ contains_name files file there = (
   subst (λ (n : ℕ). there.0 < n) (sym (length-map files (λ (f : Names × Stamp). f.0))) there.1,
   get_or-map (λ (f : Names × Stamp). f.0) files there.0 file file.0 there.1 ∙ ap (λ (f : Names × Stamp). f.0) there.2,
 )
-
-or_false : (a b : Bool) → (a || b) ≡ false → (a ≡ false) × (b ≡ false)
-or_false true b is = absurd (cc)
-or_false false b is = (refl, is)
 
 pub some_alike : (a b : Option Owned) → made_by a ≡ made_by b → is_some a ≡ is_some b
 some_alike None None same = refl
@@ -204,10 +201,10 @@ module _ (g : GraphState) where
   one_stays owned path None q other = refl
   one_stays owned path (Some one) q other = get_unsure owned path one q ∙ rw other refl
 
-  others_stay : (paths : List Names) (owned : OwnedPaths) (q : Names) → among q paths ≡ false → finite.get (fold one_unsure owned paths) q ≡ finite.get owned q
+  pub others_stay : (paths : List Names) (owned : OwnedPaths) (q : Names) → among q paths ≡ false → finite.get (fold one_unsure owned paths) q ≡ finite.get owned q
   others_stay [] owned q other = refl
   others_stay (path ∷ paths) owned q other =
-      let parts = or_false (same_path q path) (among q paths) other in
+      let parts = or_parts (same_path q path) (among q paths) other in
       others_stay paths (one_unsure owned path) q parts.1 ∙ one_stays owned path (finite.get g.owned path) q parts.0
 
 -- paths without a maker that become unsure keep a kept graph

@@ -1,9 +1,9 @@
 -- As a clearing leaves it, a kept site is kept.
 use Rattle.std.specs.Prelude.{bytes_eq}
-use Rattle.std.proofs.Common.{◌≡◌, ◌≢◌, ◌⊎◌, inl, inr, ⊎_elim, ℕ, ◌≤◌, Bool, true, false, cond, ◌||◌, ◌&&◌, is_some, List, [], ◌∷◌, Option, None, Some, All, refl, sym, ap, subst, ◌∙◌, arith}
+use Rattle.std.proofs.Common.{◌≡◌, ◌≢◌, ◌⊎◌, inl, inr, ⊎_elim, ℕ, ◌≤◌, Bool, true, false, cond, ◌||◌, is_some, List, [], ◌∷◌, Option, None, Some, All, refl, sym, ap, subst, ◌∙◌, arith}
 use Rattle.std.specs.FinMap as finite
 use Rattle.std.specs.Option.{option_map}
-use Rattle.std.proofs.lemmas.Bool.{true≢false}
+use Rattle.std.proofs.lemmas.Bool.{true≢false, and_parts}
 use Rattle.std.proofs.lemmas.List.Elements.{All-head, All-tail}
 use Rattle.std.proofs.lemmas.Slice.Eq.{bytes_eq-Decides}
 use Rattle.tup_path.specs.Name.{Names, Content}
@@ -52,10 +52,6 @@ has_each P (path ∷ paths) q all is = by (same_path q path) refl is (has_each P
     by : (b : Bool) → same_path q path ≡ b → among q (path ∷ paths) ≡ true → (among q paths ≡ true → P q) → P q
     by true same there behind = subst P (sym ((same_path-decides q path).0 same)) (All-head P path paths all)
     by false apart there behind = behind (sym (ap (λ (b : Bool). b || among q paths) apart) ∙ there)
-
-both_true : (a b : Bool) → (a && b) ≡ true → (a ≡ true) × (b ≡ true)
-both_true true b is = (refl, is)
-both_true false b is = absurd (true≢false (sym is))
 
 some_there : (file : Option Content) → is_some file ≡ true → (content : Content) × (file ≡ Some content)
 some_there (Some content) is = (content, refl)
@@ -139,7 +135,7 @@ module _ {S : Type 0} (site : Site S) (next : Next) (language : Language) (known
       file : (content : Content) × (finite.get tree q ≡ Some content)
       file =
           some_there (finite.get tree q)
-          (both_true (among q paths) (is_some (finite.get tree q))
+          (and_parts (among q paths) (is_some (finite.get tree q))
           (sym (stands_among site next language known (site.world old) (site.moment old) graph old over (earlier old) (present old) paths (unmade_at g) unread q) ∙ inside)).1
 
       by : (o.state ≡ Unsure) ⊎ (o.state ≡ Written (stamp file.0)) → HoldsItsOwn (site.world old) w q o → HoldsItsOwn (site.world new) w q o
@@ -159,7 +155,7 @@ module _ {S : Type 0} (site : Site S) (next : Next) (language : Language) (known
 
       among_both : among q files ≡ true → among q paths ≡ true
       among_both inside =
-          (both_true (among q paths) (is_some (finite.get tree q))
+          (and_parts (among q paths) (is_some (finite.get tree q))
           (sym (stands_among site next language known (site.world old) (site.moment old) graph old over (earlier old) (present old) paths (unmade_at g) unread q) ∙ inside)).0
 
       by : (b : Bool) → among q files ≡ b → HoldsItsOwn (site.world new) w q o

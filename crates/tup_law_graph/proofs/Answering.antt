@@ -23,9 +23,9 @@ use Rattle.tup_vars.specs.Table.{Entries, look}
 use Rattle.tup_vars.specs.declared.fault.ConfigFault.{ConfigFault}
 use Rattle.tup_graph.specs.Answers.{tupfile, tup_config, Sources, Readings, HasSourceBelow, IsAnswer, IsDrafted, IsFileFor, IsKind, IsMadeElsewhere, IsOutputOf, IsSetTo, IsSource}
 use Rattle.tup_graph.specs.Graph.{GraphState, is_owned, source}
+use Rattle.tup_readers.proofs.Entries.{in_front, front_or_behind, none_in}
 use Rattle.tup_closure.proofs.Members.{listed}
 use Rattle.tup_scan_diff.proofs.Answered.{nothing_elsewhere, not_elsewhere}
-use Rattle.tup_closure.proofs.Ordered.{in_front, front_or_behind, none_in}
 use Rattle.tup_scan_diff.proofs.Paths.{last_item, one_folder}
 use Rattle.tup_law_graph.proofs.Stable.{Settled, Stable, found, held, is_true, same_options, same_paths, same_seen, same_stamps, same_texts, settled_both, stable_both, stable_either, stable_never, stable_not, stable_of, stable_sorted}
 

@@ -45,8 +45,8 @@ use Rattle.tup_link.specs.Placed.{Placed, placed, placed_in, drafts_of as all_dr
 use Rattle.tup_project.specs.Project.{AreLinked, ComeTo}
 use Rattle.tup_project.proofs.Making.{all_keep, names_files}
 use Rattle.tup_graph.specs.Answers.{IsDrafted}
+use Rattle.tup_readers.proofs.Entries.{behind_front, front_or_behind, in_front, none_in}
 use Rattle.tup_scan_diff.proofs.Editing.{entry_found, found_entry}
-use Rattle.tup_closure.proofs.Ordered.{behind_front, front_or_behind, in_front, none_in}
 use Rattle.tup_law_graph.specs.Linking.{DeclareWhatIsThere}
 use Rattle.tup_law_graph.proofs.Lists.{at_place, flat_map_in, in_flat_map, in_map, map_in, place_of}
 

@@ -10,7 +10,7 @@ use Rattle.tup_path.specs.Name.{Names}
 use Rattle.tup_path.specs.Order.{by_bytes, same_path}
 use Rattle.tup_path.proofs.Same.{same_bytes-decides, same_path-decides}
 use Rattle.tup_stamp.specs.declared.Stamp.{Stamp}
-use Rattle.tup_closure.proofs.Ordered.{behind_front, front_or_behind, in_front, none_in}
+use Rattle.tup_readers.proofs.Entries.{behind_front, front_or_behind, in_front, none_in}
 
 -- what isn't refuted holds
 abbrev pub Stable : Type 0 → Type 0

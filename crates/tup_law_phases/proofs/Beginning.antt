@@ -1,8 +1,9 @@
 -- The graph of a new store is kept, and so is the site of a project that has just begun.
-use Rattle.std.proofs.Common.{◌≡◌, ℕ, Bool, true, false, cond, List, [], ◌∷◌, ◌++◌, length, Option, None, Some, IsSome, inl, refl, sym, ap, subst, ◌∙◌, arith}
+use Rattle.std.proofs.Common.{◌≡◌, ℕ, Bool, true, false, cond, List, [], ◌∷◌, ◌++◌, Option, None, Some, IsSome, inl, refl, sym, ap, subst, ◌∙◌}
 use Rattle.std.specs.FinMap as finite
 use Rattle.std.proofs.lemmas.Bool.{false≢true}
 use Rattle.std.proofs.lemmas.Option.{none-some}
+use Rattle.std.proofs.lemmas.List.{nil_from_length}
 use Rattle.tup_path.specs.Name.{Names, Content}
 use Rattle.tup_path.specs.Order.{by_names}
 use Rattle.tup_stamp.specs.declared.Stamp.{Stamp}
@@ -33,12 +34,8 @@ no_reading dir reading here = let none : None ≡ Some reading = sym (finite.get
 none_owned : (path : Names) (owned : Owned) → finite.get empty_graph.owned path ≡ Some owned → ⊥
 none_owned path owned here = let none : None ≡ Some owned = sym (finite.get-empty {X = Owned} by_names path) ∙ here in absurd (cc none)
 
-no_length : {A : Type 0} (items : List A) → length items ≡ 0 → items ≡ []
-no_length [] e = refl
-no_length (item ∷ items) e = absurd (omega (arith, e))
-
 no_readings : finite.entries empty_graph.readings ≡ []
-no_readings = no_length (finite.entries empty_graph.readings) (sym (finite.len-entries empty_graph.readings) ∙ finite.len-empty by_names Reading)
+no_readings = nil_from_length (finite.entries empty_graph.readings) (sym (finite.len-entries empty_graph.readings) ∙ finite.len-empty by_names Reading)
 
 -- nothing is seen
 none_seen : (path : Names) → source empty_graph path ≡ None

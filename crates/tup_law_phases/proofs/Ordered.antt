@@ -24,9 +24,9 @@ use Rattle.tup_link.specs.Linked.{Members, rule_of, rules_of}
 use Rattle.tup_link.specs.Placed.{Placed, drafts_of, placed, placed_in}
 use Rattle.tup_project.specs.Project.{AreLinked}
 use Rattle.tup_graph.specs.Graph.{GraphState}
+use Rattle.tup_readers.proofs.Entries.{front_or_behind, none_in}
 use Rattle.tup_rule_diff.specs.Edits.{dir_of}
 use Rattle.tup_rule_diff.specs.Order.{AreByFolder}
-use Rattle.tup_closure.proofs.Ordered.{front_or_behind, none_in}
 use Rattle.tup_refresh.specs.declared.refreshed.Refreshed.{Refreshed}
 use Rattle.tup_refresh.specs.Refresh.{AreSorted, IsRefresh, IsRefreshWith}
 use Rattle.tup_law_graph.proofs.Lists.{at_place, in_flat_map, in_map}

@@ -17,7 +17,7 @@ use Rattle.tup_law_site.proofs.Remaining.{holds_alike}
 use Rattle.tup_law_site.proofs.Stores.{one_standing}
 
 -- bytes that leave the same entries have the same graph in them
-same_graph : (entries : Standing) (before after : List ℕ) (g : GraphState) → Leaves entries before → Leaves entries after → IsGraphIn before g → IsGraphIn after g
+pub same_graph : (entries : Standing) (before after : List ℕ) (g : GraphState) → Leaves entries before → Leaves entries after → IsGraphIn before g → IsGraphIn after g
 same_graph entries before after g left leaves is = record {
   commits = leaves.0;
   reads = leaves.1;

@@ -3,6 +3,7 @@ use Rattle.std.proofs.Common.{◌≡◌, Bool, true, false, cond, not, ◌||◌,
 use Rattle.std.specs.FinMap as finite
 use Rattle.std.specs.Ordering.{eq_by_cmp}
 use Rattle.std.proofs.lemmas.List.Elements.{All-contains}
+use Rattle.std.proofs.lemmas.Bool.{or_parts}
 use Rattle.tup_path.specs.Name.{Names, Content}
 use Rattle.tup_path.specs.Order.{by_names, same_path, same_path-by_names, by_names-total, by_names-antisymmetric}
 use Rattle.tup_path.specs.Tree.{Tree}
@@ -36,15 +37,11 @@ module _ (g : GraphState) where
       (finite.get-insert by_names-total owned path (unsure path) q ∙ ap (λ (b : Bool). cond b (Some (unsure path)) (finite.get owned q)) (sym (same_path-by_names q path)))
       ∙ either (same_path q path) (among q paths) (unsure path) (finite.get owned q)
 
-or_false : (a b : Bool) → (a || b) ≡ false → (a ≡ false) × (b ≡ false)
-or_false true b is = absurd (cc)
-or_false false b is = (refl, is)
-
 -- a path that isn't forgotten is owned as it was
 left_elsewhere : (paths : List Names) (owned : finite.FinMap by_names Owned) (q : Names) → among q paths ≡ false → finite.get (fold finite.remove owned paths) q ≡ finite.get owned q
 left_elsewhere [] owned q other = refl
 left_elsewhere (path ∷ paths) owned q other =
-    let parts = or_false (same_path q path) (among q paths) other in
+    let parts = or_parts (same_path q path) (among q paths) other in
     left_elsewhere paths (finite.remove owned path) q parts.1 ∙ finite.get-remove by_names-total owned path q
     ∙ ap (λ (b : Bool). cond b None (finite.get owned q)) (sym (same_path-by_names q path) ∙ parts.0)
 

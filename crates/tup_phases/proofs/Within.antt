@@ -14,8 +14,8 @@ use Rattle.tup_rule.specs.declared.question.Reading.{Reading}
 use Rattle.tup_rule.specs.declared.rule.Rule.{Rule}
 use Rattle.tup_record.specs.declared.owned.OwnedState.TheVariants.{Unsure}
 use Rattle.tup_runner.specs.Next.{Next}
-use Rattle.tup_table.specs.Entries.{Standing, entries_of}
-use Rattle.tup_table.specs.Images.{Leaves, OpenStep}
+use Rattle.tup_table.specs.Entries.{entries_of}
+use Rattle.tup_table.specs.Images.{OpenStep}
 use Rattle.tup_table.specs.Table.{entries_in}
 use Rattle.tup_graph.specs.declared.owned.Owned.{Owned}
 use Rattle.tup_graph.specs.Graph.{GraphState, is_flagged, is_rule}
@@ -33,7 +33,8 @@ use Rattle.tup_law_graph.proofs.Reaching.{scan_flags_are_reach}
 use Rattle.tup_law_graph.proofs.Swapping.{owned_by, owned_if}
 use Rattle.tup_law_site.proofs.Laws.{before}
 use Rattle.tup_law_site.proofs.Remaining.{has_graph}
-use Rattle.tup_law_site.proofs.Stores.{in_bytes, one_in_bytes, one_standing}
+use Rattle.tup_law_site.proofs.Stores.{in_bytes, one_in_bytes}
+use Rattle.tup_law_site.proofs.Opened.{same_graph}
 use Rattle.tup_partial.specs.Plan.{AreFlagsOfRules}
 use Rattle.tup_stale.specs.Crash.{ClearStep, LeavesBy}
 use Rattle.tup_stale.specs.Unmade.{unmade}
@@ -121,20 +122,12 @@ module _ (first : World) (g : GraphState) (paths : List Names) (within : StaysWi
 
 -- ---- what stands in a store
 
--- an opening leaves the graph that stood there
-same_entries : (entries : Standing) (before after : List ℕ) (g : GraphState) → Leaves entries before → Leaves entries after → IsGraphIn before g → IsGraphIn after g
-same_entries entries before after g left leaves reads = record {
-  commits = leaves.0;
-  reads = leaves.1;
-  graph = subst (λ (e : Standing). IsGraphOf e g) (one_standing before reads.commits left.0 reads.reads left.1 ∙ sym left.2 ∙ leaves.2) reads.graph;
-}
-
 pub opened_on : (v w : World) → OpenStep v w → (g : GraphState) → IsGraphIn v.store g → IsGraphIn w.store g
-opened_on v w step g reads = same_entries step.entries v.store w.store g step.before step.after reads
+opened_on v w step g reads = same_graph step.entries v.store w.store g step.before step.after reads
 
 pub opened_back : (v w : World) → (w ≡ v) ⊎ OpenStep v w → (g : GraphState) → IsGraphIn w.store g → IsGraphIn v.store g
 opened_back v w (inl same) g reads = subst (λ (u : World). IsGraphIn u.store g) same reads
-opened_back v w (inr step) g reads = same_entries step.entries w.store v.store g step.after step.before reads
+opened_back v w (inr step) g reads = same_graph step.entries w.store v.store g step.after step.before reads
 
 module _ {S : Type 0} (site : Site S) (tells : IsTrue site.tells) (earlier : (s : S) (t u : ℕ) (w : World) → IsTrue site.tells → t ≤ u → site.left_since s u w → site.left_since s t w)
     (present : (s : S) → IsTrue site.tells → site.left_since s (site.moment s) (site.world s)) (first : World) where

@@ -10,13 +10,13 @@ use Rattle.std.specs.FinMap.{FinMap, IsAntisymmetric, find, is_sorted}
 use Rattle.std.specs.FinMap.Entries.{below_all}
 use Rattle.std.proofs.Math.Dec.{T}
 
-in_front : {X : Type 0} (x : X) (xs : List X) → Contains (x ∷ xs) x
+pub in_front : {X : Type 0} (x : X) (xs : List X) → Contains (x ∷ xs) x
 in_front x xs = (0, omega arith, refl)
 
-behind_front : {X : Type 0} (x y : X) (xs : List X) → Contains xs y → Contains (x ∷ xs) y
+pub behind_front : {X : Type 0} (x y : X) (xs : List X) → Contains xs y → Contains (x ∷ xs) y
 behind_front x y xs h = let less = h.1 in (suc h.0, omega arith, h.2)
 
-front_or_behind : {X : Type 0} (x y : X) (xs : List X) → Contains (x ∷ xs) y → (x ≡ y) ⊎ Contains xs y
+pub front_or_behind : {X : Type 0} (x y : X) (xs : List X) → Contains (x ∷ xs) y → (x ≡ y) ⊎ Contains xs y
 front_or_behind x y xs (zero, less, is) = inl is
 front_or_behind x y xs (suc k, less, is) = inr (k, omega arith, is)
 

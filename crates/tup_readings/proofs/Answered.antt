@@ -35,7 +35,7 @@ pub told_where_ready : (sources : Tree) (settings : Entries) (readings : Reading
 told_where_ready sources settings readings reader question e =
     ap (λ (next : Option Names). elim next as (λ _. Told) [ Some dir ↦ misfit question | None ↦ answer sources settings readings reader question ]) e
 
-told_where_waiting : (sources : Tree) (settings : Entries) (readings : Readings) (reader next : Names) (question : Question) → awaited sources readings reader question ≡ Some next
+pub told_where_waiting : (sources : Tree) (settings : Entries) (readings : Readings) (reader next : Names) (question : Question) → awaited sources readings reader question ≡ Some next
     → answer_or_misfit sources settings readings reader question ≡ misfit question
 told_where_waiting sources settings readings reader next question e =
     ap (λ (next : Option Names). elim next as (λ _. Told) [ Some dir ↦ misfit question | None ↦ answer sources settings readings reader question ]) e

@@ -38,7 +38,7 @@ use Rattle.tup_graph.specs.Graph.{GraphState, is_created}
 use Rattle.tup_graph.specs.Kept.{IsKept}
 use Rattle.tup_graph.specs.Records.{Language}
 use Rattle.tup_graph.specs.Swap.{reading_now}
-use Rattle.tup_closure.proofs.Ordered.{none_in, in_front, behind_front, front_or_behind}
+use Rattle.tup_readers.proofs.Entries.{none_in, in_front, behind_front, front_or_behind}
 use Rattle.tup_scan_diff.proofs.Editing.{left_of, right_of, t_true, apart, above_head, found_entry, entry_found}
 use Rattle.tup_refresh.specs.Idle.{up_to, asks_back, AreBack, AllAskBack, IsWellSet, IsIdle, idle}
 use Rattle.tup_refresh.specs.Language.{ReadsTupfiles}
@@ -114,9 +114,9 @@ pub back_more : (seen : List (Names × Reading)) (one : Names × Reading) → Al
 back_more seen one before back dir left h = elim (Contains-append_cases seen (one ∷ []) (dir, left) h) [
   | inl old ↦ before dir left old
   | inr new ↦ elim (front_or_behind one (dir, left) [] new) [
-      | inl same ↦ subst (λ (x : Names × Reading). AreBack x.0 x.1.asked) same back
-      | inr neither ↦ absurd (none_in (dir, left) neither)
-    ]
+    | inl same ↦ subst (λ (x : Names × Reading). AreBack x.0 x.1.asked) same back
+    | inr neither ↦ absurd (none_in (dir, left) neither)
+  ]
 ]
 
 -- a folder needs no reading that is one's own, that has no Tupfile, or that is read
@@ -199,9 +199,9 @@ module _ (next : Next) (language : Language) (known : List Content) (g : GraphSt
       earlier other left there less = elim (cover other left there) [
         | inl seen ↦ subst IsSome (sym seen) refl
         | inr h ↦ absurd (elim (front_or_behind one (other, left) rest h) [
-            | inl same ↦ not_itself other (subst (λ (d : Names). by_names other d ≡ Less) (λ i. (same i).0) less)
-            | inr later ↦ not_itself other (by_names-total.trans other one.0 other less (less_is (by_names one.0 other) (behind (other, left) later)))
-          ])
+          | inl same ↦ not_itself other (subst (λ (d : Names). by_names other d ≡ Less) (λ i. (same i).0) less)
+          | inr later ↦ not_itself other (by_names-total.trans other one.0 other less (less_is (by_names one.0 other) (behind (other, left) later)))
+        ])
       ]
 
       stay_more : (dir : Names) (left : Reading) → finite.get (finite.insert before one.0 one.1) dir ≡ Some left → finite.get g.readings dir ≡ Some left

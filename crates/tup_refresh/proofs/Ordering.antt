@@ -15,7 +15,7 @@ use Rattle.tup_path.proofs.Same.{same_path-decides}
 use Rattle.tup_rule_line.specs.Folder.{name_in}
 use Rattle.tup_rule_line.specs.Glob.{names_among}
 use Rattle.tup_readings.proofs.Below.{last_item, name_in_named}
-use Rattle.tup_closure.proofs.Ordered.{in_front, behind_front, front_or_behind, none_in}
+use Rattle.tup_readers.proofs.Entries.{in_front, behind_front, front_or_behind, none_in}
 
 -- ---- keys that are put in their places
 

@@ -4,13 +4,6 @@ use Rattle.tup_site.specs.Crash.{GoesOn, NoStep}
 use Rattle.tup_site.specs.World.{World}
 
 module _ {S : Type 0} (moment : S → ℕ) (left_since : S → ℕ → World → Type 0) where
-  pub at_rest : (site : S) → GoesOn moment left_since site site NoStep
-  at_rest site = record {
-    later = omega arith;
-    kept = λ t w le left. left;
-    since = λ t w le left. inl left;
-  }
-
   -- one behind another
   pub goes_then : (old mid new : S) → GoesOn moment left_since old mid NoStep → GoesOn moment left_since mid new NoStep → GoesOn moment left_since old new NoStep
   goes_then old mid new first then = record {

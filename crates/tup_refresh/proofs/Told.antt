@@ -23,7 +23,7 @@ use Rattle.tup_readings.specs.Asked.{misfit, answer_or_misfit, waits_for}
 use Rattle.tup_readings.specs.Readings.{IsReadingOver, IsFaultOver}
 use Rattle.tup_readings.specs.Sources.{has_tupfile}
 use Rattle.tup_readings.specs.declared.fault.FoldersFault.{FoldersFault}
-use Rattle.tup_readings.proofs.Answered.{answer_fits, answered, told_where_ready, waits_for-refl}
+use Rattle.tup_readings.proofs.Answered.{answer_fits, answered, told_where_ready, waits_for-refl, told_where_waiting}
 use Rattle.tup_readings.proofs.Logs.{AllFit, fit_from_start, fit_where_it_stands}
 use Rattle.tup_readings.proofs.Stops.{read_over, fault_over}
 use Rattle.tup_readings.proofs.Waits.{awaited_is, one_folder}
@@ -88,11 +88,6 @@ lack_if fetched (Ok given) is = is given refl
 lack_if fetched (Err fault) is = tt
 
 -- ---- where one stopped who tells the same after as before
-
-told_where_waiting : (sources : Tree) (settings : Entries) (readings : Readings) (reader next : Names) (question : Question) → awaited sources readings reader question ≡ Some next
-    → answer_or_misfit sources settings readings reader question ≡ misfit question
-told_where_waiting sources settings readings reader next question e =
-    ap (λ (next : Option Names). elim next as (λ _. Told) [ Some dir ↦ misfit question | None ↦ answer sources settings readings reader question ]) e
 
 module _ (outline after : Tree) (settings set : Entries) (readings others : Readings) (reader other : Names) (fetched later : Fetched)
     (same : told_or_misfit after set others other later ≡ told_or_misfit outline settings readings reader fetched) where

@@ -57,9 +57,10 @@ use Rattle.tup_graph.specs.Graph.{GraphState, is_created, source}
 use Rattle.tup_graph.specs.Kept.{IsKept}
 use Rattle.tup_graph.specs.Records.{Language}
 use Rattle.tup_graph.proofs.Maps.{by_bytes-antisymmetric}
+use Rattle.tup_readers.proofs.Entries.{none_in}
 use Rattle.tup_closure.proofs.Members.{listed, in_list}
 use Rattle.tup_scan_diff.proofs.Answered.{one_kind}
-use Rattle.tup_closure.proofs.Ordered.{none_in, same_members}
+use Rattle.tup_closure.proofs.Ordered.{same_members}
 use Rattle.tup_refresh.specs.declared.refreshed.Refreshed.{Refreshed}
 use Rattle.tup_refresh.specs.Language.{ReadsTupfiles}
 use Rattle.tup_refresh.specs.Refresh.{IsDue, AreRefreshed, IsRefresh, IsRefreshWith, IsTrueBeside}

@@ -18,10 +18,10 @@ use Rattle.tup_graph.specs.Above.{IsAbove}
 use Rattle.tup_graph.specs.Graph.{GraphState, is_rule, is_flagged}
 use Rattle.tup_graph.specs.Swap.{WasAt, IsNew, IsFlaggedYet, ReadsNew}
 use Rattle.tup_graph.specs.Transactions.{flag_edits}
+use Rattle.tup_readers.proofs.Entries.{in_front, none_in, front_or_behind}
 use Rattle.tup_closure.specs.Readers.{AreRunsOfRules}
 use Rattle.tup_closure.proofs.Members.{number-decides}
 use Rattle.tup_closure.proofs.Stepping.{above_as}
-use Rattle.tup_closure.proofs.Ordered.{in_front, none_in, front_or_behind}
 use Rattle.tup_rule_diff.specs.Before.{AreNumbersBefore, IsNumberBefore}
 use Rattle.tup_rule_diff.specs.Edits.{AreSwapEdits, IsRunNow, IsToRun, clear_edits, led_by, less_edits, more_edits, own_so, reading_edits, run_so}
 use Rattle.tup_rule_diff.specs.Numbered.{numbered}

@@ -4,8 +4,8 @@ use Rattle.std.proofs.Common.{refl, sym, ap, subst, ◌∙◌, inl, inr, append_
 use Rattle.std.proofs.lemmas.List.{append-nil, length-take-le}
 use Rattle.std.proofs.lemmas.List.Elements.{Contains-append_left, Contains-append_right, Contains-append_cases}
 use Rattle.std.proofs.lemmas.Option.{none-some, same_Some}
+use Rattle.tup_readers.proofs.Entries.{none_in}
 use Rattle.tup_closure.proofs.Asked.{taken}
-use Rattle.tup_closure.proofs.Ordered.{none_in}
 use Rattle.tup_rule_diff.specs.Numbered.{numbered}
 use Rattle.tup_rule_diff.proofs.Pushing.{behind}
 

@@ -1,5 +1,5 @@
 -- Finite maps into which entries are put one after another, and from which they are taken.
-use Rattle.std.specs.Prelude.{◌≡◌, ◌⊎◌, ◌&&◌, Bool, true, false, cond, List, [], ◌∷◌, Option, None, Some, Contains, Decides, fold, is_some}
+use Rattle.std.specs.Prelude.{◌≡◌, ◌⊎◌, Bool, true, false, cond, List, [], ◌∷◌, Option, None, Some, Contains, Decides, fold, is_some}
 use Rattle.std.proofs.Common.{refl, sym, ap, subst, ◌∙◌, inl, inr}
 use Rattle.std.specs.declared.cmp.Ordering.{Ordering}
 use Rattle.std.specs.declared.cmp.Ordering.TheVariants.{Less, Equal, Greater}
@@ -9,15 +9,12 @@ use Rattle.std.specs.FinMap as finite
 use Rattle.std.specs.FinMap.{FinMap, IsAntisymmetric, find, is_sorted}
 use Rattle.std.specs.FinMap.Entries.{below_all}
 use Rattle.std.proofs.Math.Dec.{T}
-use Rattle.tup_closure.proofs.Ordered.{in_front, behind_front, front_or_behind, none_in}
+use Rattle.std.proofs.lemmas.Bool.{and_parts}
+use Rattle.tup_readers.proofs.Entries.{in_front, behind_front, front_or_behind, none_in}
 
 t_true : (b : Bool) → T b → b ≡ true
 t_true true t = refl
 t_true false t = absurd t
-
-both_true : (a b : Bool) → (a && b) ≡ true → (a ≡ true) × (b ≡ true)
-both_true true b e = (refl, e)
-both_true false b e = absurd (let wrong : false ≡ true = e in cc)
 
 not_same : {K : Type 0} (R : K → K → Ordering) (a b : K) → is_lt (R a b) ≡ true → eq_by_cmp R a b ≡ false
 not_same R a b less = by (R a b) less
@@ -79,13 +76,13 @@ module _ {K X : Type 0} {R : K → K → Ordering} (o : IsTotalOrder R) (exact :
   none_below : (k : K) (es : List (K × X)) → below_all R k es ≡ true → find R k es ≡ None
   none_below k [] up = refl
   none_below k (e ∷ es) up =
-      let parts = both_true (is_lt (R k e.0)) (below_all R k es) up in
+      let parts = and_parts (is_lt (R k e.0)) (below_all R k es) up in
       ap (λ (b : Bool). cond b (Some e.1) (find R k es)) (not_same R k e.0 parts.0) ∙ none_below k es parts.1
 
   sorted_once : (es : List (K × X)) → is_sorted R es ≡ true → Once es
   sorted_once [] up = tt
   sorted_once (e ∷ es) up =
-      let parts = both_true (below_all R e.0 es) (is_sorted R es) up in
+      let parts = and_parts (below_all R e.0 es) (is_sorted R es) up in
       (none_below e.0 es parts.0, sorted_once es parts.1)
 
   pub once_sorted : (m : FinMap R X) → Once (finite.entries m)

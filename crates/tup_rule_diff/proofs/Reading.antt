@@ -1,13 +1,13 @@
 -- Rules whose records ask an output of a new one, one rule after another.
-use Rattle.std.specs.Prelude.{◌≡◌, ◌⊎◌, ◌↔◌, ◌+◌, ◌<◌, ◌≤◌, ℕ, true, false, List, [], ◌++◌, Option, Some, Contains, length, slice_get}
+use Rattle.std.specs.Prelude.{◌≡◌, ◌⊎◌, ◌↔◌, ◌+◌, ◌<◌, ◌≤◌, ℕ, List, [], ◌++◌, Option, Some, Contains, length, slice_get}
 use Rattle.std.proofs.Common.{refl, sym, subst, ◌∙◌, inl, inr, get_or, arith}
 use Rattle.std.proofs.lemmas.Bool.{cases_eq}
 use Rattle.std.proofs.lemmas.List.Elements.{Contains-append_left, Contains-append_right, Contains-append_cases}
 use Rattle.std.proofs.lemmas.Option.{same_Some, slice_get_read, slice_get_within}
 use Rattle.tup_rule.specs.declared.rule.Rule.{Rule}
 use Rattle.tup_graph.specs.Graph.{GraphState}
+use Rattle.tup_readers.proofs.Entries.{none_in}
 use Rattle.tup_closure.specs.Grows.{Grows}
-use Rattle.tup_closure.proofs.Ordered.{none_in}
 use Rattle.tup_rule_diff.specs.Running.{ReadsIfNew, ReadsOneNew}
 
 -- a list behind a list

@@ -22,9 +22,9 @@ use Rattle.tup_graph.specs.Graph.{GraphState, is_flagged}
 use Rattle.tup_graph.specs.Kept.{IsRuleAt}
 use Rattle.tup_graph.specs.Swap.{WasAt, IsPlaced, IsSwapped, IsFlaggedYet, ReadsNew, reading_now}
 use Rattle.tup_graph.proofs.Keeping.{get_removed}
+use Rattle.tup_readers.proofs.Entries.{in_front, behind_front, front_or_behind, none_in}
 use Rattle.tup_closure.proofs.Members.{number-decides}
 use Rattle.tup_closure.proofs.Stepping.{above_as}
-use Rattle.tup_closure.proofs.Ordered.{in_front, behind_front, front_or_behind, none_in}
 use Rattle.tup_rule_diff.specs.Edits.{AreSwapEdits, IsRunNow, IsToRun, place_behind, dir_of}
 use Rattle.tup_rule_diff.proofs.Puts.{Once, first_or, get_put, put_there, there_put}
 use Rattle.tup_rule_diff.proofs.Leaving.{led_graph, led_is, place_at, places_behind, readings_after, swapped, swap_leaves, tagged}

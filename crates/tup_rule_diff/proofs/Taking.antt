@@ -1,5 +1,5 @@
 -- A graph takes the edits of a swap, one after another.
-use Rattle.std.specs.Prelude.{◌≡◌, ◌⊎◌, ◌<◌, ◌+◌, ◌&&◌, ℕ, zero, suc, Bool, true, cond, List, [], ◌∷◌, ◌++◌, Option, None, Some, All, Contains, map, filter_map, length, count_by, option_map, slice_get, nat_lt, unwrap_or}
+use Rattle.std.specs.Prelude.{◌≡◌, ◌⊎◌, ◌<◌, ◌+◌, ℕ, zero, suc, Bool, true, cond, List, [], ◌∷◌, ◌++◌, Option, None, Some, All, Contains, map, filter_map, length, count_by, option_map, slice_get, nat_lt, unwrap_or}
 use Rattle.std.proofs.Common.{refl, sym, ap, subst, ◌∙◌, inl, inr, append_assoc, length-append, arith}
 use Rattle.std.specs.declared.cmp.Ordering.{Ordering}
 use Rattle.std.specs.declared.cmp.Ordering.TheVariants.{Less, Equal, Greater}
@@ -8,7 +8,7 @@ use Rattle.std.specs.Cmp.{nat_cmp_is}
 use Rattle.std.specs.List.{AllByRecursion, cons_option}
 use Rattle.std.specs.FinMap as finite
 use Rattle.std.proofs.Math.Dec.{eqb}
-use Rattle.std.proofs.lemmas.Bool.{lt-ltb, eq-eqb}
+use Rattle.std.proofs.lemmas.Bool.{lt-ltb, eq-eqb, and_from}
 use Rattle.std.proofs.lemmas.List.{length-take-le}
 use Rattle.std.proofs.lemmas.List.Elements.{recursion_from_All}
 use Rattle.std.proofs.lemmas.List.Quantifiers.{position-Some}
@@ -37,8 +37,8 @@ use Rattle.tup_graph.specs.Transactions.{flag_edits}
 use Rattle.tup_graph.proofs.Bare.{level_of}
 use Rattle.tup_graph.proofs.Needed.{needed_read}
 use Rattle.tup_graph.proofs.Turns.{turns_read, taken_so, taken_both}
+use Rattle.tup_readers.proofs.Entries.{in_front, behind_front}
 use Rattle.tup_scan_diff.proofs.Editing.{found_entry}
-use Rattle.tup_closure.proofs.Ordered.{in_front, behind_front}
 use Rattle.tup_scan_diff.proofs.Paths.{last_item}
 use Rattle.tup_rule_diff.specs.Edits.{AreSwapEdits, unflag, uncreate, unown, unrun, clear_edits, unread, read_so, reading_edits, less_edits, rule_less, more_edits, rule_more, place_behind, run_so, own_so, IsToRun}
 use Rattle.tup_rule_diff.specs.Order.{AreByFolder}
@@ -191,9 +191,6 @@ rule_fits before more rule ordered = by (last_item before)
         (λ i. (last_is earlier last i, (ap last_of (places_more [] earlier last) ∙ last_is (places_behind [] earlier) (place_behind earlier last)) i))
         ∙ comes earlier last rule not_back)
 
-both_true : (a b : Bool) → a ≡ true → b ≡ true → (a && b) ≡ true
-both_true a b one two = ap (λ (x : Bool). x && b) one ∙ two
-
 more_taken : (h : GraphState) (before rules : List Rule) → IsBare h → h.rules ≡ before → h.places ≡ places_behind [] before → AreByFolder (before ++ rules) → AllByRecursion HasSpelling (more_edits before rules)
     → AreTakenInTurn h (more_edits before rules)
 more_taken h before [] is here level ordered all = tt
@@ -206,7 +203,7 @@ more_taken h before (rule ∷ rules) is here level ordered all = (
     spelled = all.0;
     one = inr (
       refl,
-      both_true (eqb (length before) (length h.rules)) (comes_behind (last_of h.rules) (last_of h.places) rule (place_behind before rule))
+      and_from (eqb (length before) (length h.rules)) (comes_behind (last_of h.rules) (last_of h.places) rule (place_behind before rule))
           (eq-eqb (length before) (length h.rules) (sym (ap length here)))
           (ap (λ (x : List Rule × List ℕ). comes_behind (last_of x.0) (last_of x.1) rule (place_behind before rule)) (λ i. (here i, level i)) ∙ rule_fits before rules rule ordered),
     );

@@ -25,10 +25,10 @@ use Rattle.tup_graph.specs.declared.edit.Edit.TheVariants.{Put}
 use Rattle.tup_graph.specs.Edits.{edited, edited_by}
 use Rattle.tup_graph.specs.Graph.{GraphState, is_created, is_flagged}
 use Rattle.tup_graph.specs.Transactions.{seen_so, flag_edits}
+use Rattle.tup_readers.proofs.Entries.{none_in, in_front, behind_front, front_or_behind}
 use Rattle.tup_scan_diff.specs.Edits.{is_same, is_news, is_gone, not_seen, news_edits, gone_edits, seen_edits, to_read, create_edits, modify_edits}
 use Rattle.tup_scan_diff.specs.Present.{seeing}
 use Rattle.tup_closure.proofs.Reading.{in_filter}
-use Rattle.tup_closure.proofs.Ordered.{none_in, in_front, behind_front, front_or_behind}
 
 -- ---- entries of a map, by their keys
 

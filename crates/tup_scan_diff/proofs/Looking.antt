@@ -20,7 +20,7 @@ use Rattle.tup_graph.specs.Scan.{IsTouched}
 use Rattle.tup_graph.specs.Transactions.{seen_so}
 use Rattle.tup_readers.specs.Index.{HasWritten}
 use Rattle.tup_readers.specs.Suspects.{HasAllOthers}
-use Rattle.tup_readers.proofs.Entries.{entry_found as number_found, found_entry as found_number, none_in}
+use Rattle.tup_readers.proofs.Entries.{entry_found as number_found, found_entry as found_number, none_in, in_front, behind_front, front_or_behind}
 use Rattle.tup_readers.proofs.Keeping.{none_some, some_same}
 use Rattle.tup_closure.specs.Grows.{Grows}
 use Rattle.tup_closure.proofs.Growing.{grows_as, grows_nothing, grows_on}
@@ -30,7 +30,6 @@ use Rattle.tup_scan_diff.specs.Present.{seeing}
 use Rattle.tup_scan_diff.specs.Touched.{FindsRoots, IsScanRoot, IsUserOf, SeesOtherwise, UsesOneOf, file_of, record_of}
 use Rattle.tup_closure.proofs.Reading.{in_filter}
 use Rattle.tup_scan_diff.proofs.Editing.{entry_found, same_is}
-use Rattle.tup_closure.proofs.Ordered.{in_front, behind_front, front_or_behind}
 
 -- ---- one after another
 

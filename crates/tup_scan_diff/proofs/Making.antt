@@ -14,6 +14,7 @@ use Rattle.tup_rule.specs.declared.question.Reading.{Reading}
 use Rattle.tup_graph.specs.Answers.{IsOutputOf, Readings}
 use Rattle.tup_graph.specs.Graph.{source}
 use Rattle.tup_readers.proofs.Keeping.{none_some, some_same}
+use Rattle.tup_readers.proofs.Entries.{none_in}
 use Rattle.tup_closure.proofs.Members.{contained, in_empty, in_set}
 use Rattle.tup_scan_diff.specs.Index.{HasTupfile}
 use Rattle.tup_scan_diff.specs.Made.{AreDraftedIn, AreMade, HasMade, IsGiven}
@@ -24,7 +25,6 @@ use Rattle.tup_scan_diff.specs.declared.made.Made.{Made}
 use Rattle.tup_scan_diff.specs.declared.present.Present.{Present}
 use Rattle.tup_scan_diff.proofs.Editing.{entry_found, found_entry}
 use Rattle.tup_scan_diff.proofs.Named.{name-decides}
-use Rattle.tup_closure.proofs.Ordered.{none_in}
 use Rattle.tup_scan_diff.proofs.Sets.{set_as, set_stays}
 
 -- ---- of some readings

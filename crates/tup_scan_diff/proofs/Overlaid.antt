@@ -20,10 +20,10 @@ use Rattle.tup_stamp.specs.declared.Stamp.{Stamp}
 use Rattle.tup_closure.proofs.Asked.{taken}
 use Rattle.tup_graph.specs.Graph.{GraphState}
 use Rattle.tup_graph.specs.Transactions.{seen_so}
+use Rattle.tup_readers.proofs.Entries.{in_front}
 use Rattle.tup_scan_diff.specs.Edits.{is_same, is_news, is_gone, not_seen, news_edits, seen_edits}
 use Rattle.tup_scan_diff.specs.Present.{or_else, over}
 use Rattle.tup_scan_diff.proofs.Editing.{above_head, apart, found_entry, left_of, none_pass, right_of, t_true}
-use Rattle.tup_closure.proofs.Ordered.{in_front}
 use Rattle.tup_scan_diff.proofs.Stamped.{or_last, find_push}
 
 abbrev Entry : Type 0

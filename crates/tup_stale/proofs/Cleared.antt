@@ -1,8 +1,9 @@
 -- What a clearing leaves, by what its parts answer.
-use Rattle.std.proofs.Common.{◌≡◌, ℕ, Bool, true, false, ◌&&◌, ◌⊎◌, List, [], ◌∷◌, length, map, filter, IsTrue, Result, Ok, Err, ⊎_elim, refl, sym, ap, subst, ◌∙◌, arith}
+use Rattle.std.proofs.Common.{◌≡◌, ℕ, Bool, true, false, ◌&&◌, ◌⊎◌, List, [], map, filter, IsTrue, Result, Ok, Err, ⊎_elim, refl, sym, ap, subst, ◌∙◌}
 use Rattle.std.specs.FinMap as finite
 use Rattle.std.specs.Result.{IfOk, OnOk}
 use Rattle.std.proofs.lemmas.List.Elements.{All-nil}
+use Rattle.std.proofs.lemmas.List.{nil_from_length}
 use Rattle.tup_path.specs.Order.{by_bytes}
 use Rattle.tup_path.specs.Gives.{GivesUnless}
 use Rattle.tup_path.specs.Name.{Names}
@@ -77,13 +78,9 @@ module _ (paths files : List Names) (old new : Held) (v w : World) where
     leaves_beside (Err Memory) left = stopped left
 
 -- ---- where there is nothing to clear
-pub no_items : {A : Type 0} (items : List A) → length items ≡ 0 → items ≡ []
-no_items [] none = refl
-no_items (item ∷ items) none = absurd (omega arith)
-
 no_change : (h : Held) → to_write h [] ≡ []
 no_change h =
-    let none : finite.entries (finite.empty {X = Change} {R = by_bytes}) ≡ [] = no_items (finite.entries finite.empty) (sym (finite.len-entries finite.empty) ∙ finite.len-empty by_bytes Change) in
+    let none : finite.entries (finite.empty {X = Change} {R = by_bytes}) ≡ [] = nil_from_length (finite.entries finite.empty) (sym (finite.len-entries finite.empty) ∙ finite.len-empty by_bytes Change) in
     ap (λ (last : List (List ℕ × Change)). filter (changes_it (entries_in h.table)) (map (λ (e : List ℕ × Change). e.1) last)) none
 
 no_room_needed : (h : Held) → IsFull h [] → ⊥

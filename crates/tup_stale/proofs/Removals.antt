@@ -1,5 +1,5 @@
 -- Files that are removed one after another.
-use Rattle.std.proofs.Common.{◌≡◌, ◌≢◌, ℕ, ◌+◌, ◌<◌, Bool, true, false, cond, ◌||◌, List, [], ◌∷◌, ◌++◌, length, take, drop, get_or, slice_get, fold, None, Some, Option, refl, sym, ap, subst, ◌∙◌, arith, take-append-drop}
+use Rattle.std.proofs.Common.{◌≡◌, ◌≢◌, ℕ, ◌+◌, ◌<◌, Bool, true, false, cond, ◌||◌, List, [], ◌∷◌, ◌++◌, length, take, drop, get_or, slice_get, None, Some, Option, refl, sym, ap, subst, ◌∙◌, arith, take-append-drop}
 use Rattle.std.specs.FinMap as finite
 use Rattle.std.proofs.lemmas.Bool.{false≢true}
 use Rattle.std.proofs.lemmas.List.{take_more}
@@ -7,11 +7,12 @@ use Rattle.std.proofs.lemmas.List.Folds.{list_any_at, list_any-append}
 use Rattle.std.proofs.lemmas.List.Sums.{fold-append}
 use Rattle.std.proofs.lemmas.Option.{slice_get-get_or, slice_get_within, get_or_from_slice_get}
 use Rattle.tup_path.specs.Name.{Names}
-use Rattle.tup_path.specs.Order.{by_names, same_path, same_path-by_names, by_names-total}
+use Rattle.tup_path.specs.Order.{same_path}
 use Rattle.tup_path.specs.Tree.{Tree}
 use Rattle.tup_path.proofs.Same.{same_path-decides}
 use Rattle.tup_site.specs.Cause.{SameBut}
 use Rattle.tup_rule.specs.Rule.{among}
+use Rattle.tup_graph.proofs.Keeping.{get_removed}
 use Rattle.tup_stale.specs.Files.{without, SameBeside, IsTried, IsPart}
 
 -- ---- one more file
@@ -51,20 +52,7 @@ beside_then files u v w first last other outside = last other outside ∙ first 
 pub beside_same : (files : List Names) (v w : Tree) → w ≡ v → SameBeside files v w
 beside_same files v w is other outside = ap (λ (t : Tree). finite.get t other) is
 
--- ---- maps without some paths
-gone_either : {X : Type 0} (a b : Bool) (z : Option X) → cond b None (cond a None z) ≡ cond (a || b) None z
-gone_either true true z = refl
-gone_either true false z = refl
-gone_either false true z = refl
-gone_either false false z = refl
-
-pub get-without : {X : Type 0} (paths : List Names) (m : finite.FinMap by_names X) (q : Names) → finite.get (fold finite.remove m paths) q ≡ cond (among q paths) None (finite.get m q)
-get-without [] m q = refl
-get-without (path ∷ paths) m q =
-    get-without paths (finite.remove m path) q
-    ∙ ap (cond (among q paths) None) (finite.get-remove by_names-total m path q ∙ ap (λ (b : Bool). cond b None (finite.get m q)) (sym (same_path-by_names q path)))
-    ∙ gone_either (same_path q path) (among q paths) (finite.get m q)
-
+-- ---- beside some paths
 outside_front : (files : List Names) (n : ℕ) (path : Names) → among path files ≡ false → among path (take n files) ≡ false
 outside_front files n path outside =
     front_false (among path (take n files)) (among path (drop n files))
@@ -75,7 +63,7 @@ outside_front files n path outside =
     front_false false b is = refl
 
 pub beside_without : (files : List Names) (tree : Tree) → SameBeside files tree (without tree files)
-beside_without files tree other outside = get-without files tree other ∙ ap (λ (b : Bool). cond b None (finite.get tree other)) outside
+beside_without files tree other outside = get_removed files tree other ∙ ap (λ (b : Bool). cond b None (finite.get tree other)) outside
 
 -- where some files are gone and one was tried, all else is as it was
 pub beside_part : (files : List Names) (old new : Tree) → IsPart files old new → SameBeside files old new

@@ -1,6 +1,7 @@
 -- What stands in the way of no update that a demo shows: its project has begun, and its site and its runner never fail.
 use Rattle.std.proofs.Common.{◌≡◌, inl, ℕ, List, [], ◌∷◌, length, map, refl, sym, ap, ◌∙◌, arith}
 use Rattle.std.specs.FinMap as finite
+use Rattle.std.proofs.lemmas.List.{nil_from_length}
 use Rattle.tup_path.specs.Name.{Names}
 use Rattle.tup_path.specs.Order.{by_names}
 use Rattle.tup_site.specs.World.{World}
@@ -20,12 +21,8 @@ use Rattle.tup_top.proofs.Success.{not_rose}
 
 -- ---- what its store lists
 
-pub no_length : {A : Type 0} (items : List A) → length items ≡ 0 → items ≡ []
-no_length [] e = refl
-no_length (item ∷ items) e = absurd (omega (arith, e))
-
 owns_nothing : finite.keys empty_graph.owned ≡ []
-owns_nothing = ap (map (λ (entry : Names × Owned). entry.0)) (no_length (finite.entries empty_graph.owned) (sym (finite.len-entries empty_graph.owned) ∙ finite.len-empty by_names Owned))
+owns_nothing = ap (map (λ (entry : Names × Owned). entry.0)) (nil_from_length (finite.entries empty_graph.owned) (sym (finite.len-entries empty_graph.owned) ∙ finite.len-empty by_names Owned))
 
 -- the switch of its store is closed, and nothing stands in the low area
 begun_low : IsLow demo_world.store []

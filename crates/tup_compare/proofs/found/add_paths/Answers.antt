@@ -1,4 +1,4 @@
-use Rattle.tup_clean.proofs.Outputs.{added}
+use Rattle.tup_access.proofs.Adding.{added}
 use Rattle.tup_compare.proofs.found.add_paths.Goals as goal
 
 pub loop-path-preserved : goal.loop-path-preserved

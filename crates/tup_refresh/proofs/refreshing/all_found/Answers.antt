@@ -3,8 +3,9 @@ use Rattle.std.proofs.lemmas.Result.{err_from_is_err_and}
 use Rattle.tup_path.specs.Name.{Names}
 use Rattle.tup_site.specs.World.{World}
 use Rattle.tup_readings.specs.State.{IsLast}
+use Rattle.tup_ledger.proofs.Guarding.{at_rest}
 use Rattle.tup_refresh.specs.Part.{AreFilesOf}
-use Rattle.tup_refresh.proofs.Staying.{at_rest, goes_then}
+use Rattle.tup_refresh.proofs.Staying.{goes_then}
 use Rattle.tup_refresh.proofs.Walking.{walk_started, walk_next}
 use Rattle.tup_refresh.proofs.refreshing.all_found.Goals as goal
 

@@ -1,4 +1,5 @@
 use Rattle.std.proofs.Common.{◌≡◌, List, [], inr, refl, sym, ap, subst, ◌∙◌, arith}
+use Rattle.std.proofs.lemmas.List.{nil_from_length}
 use Rattle.tup_path.specs.Name.{Names}
 use Rattle.tup_site.specs.Crash.{GoesOn, NoStep}
 use Rattle.tup_table.specs.Table.{entries_in}
@@ -7,7 +8,7 @@ use Rattle.tup_stale.specs.Cleared.{AtLast, Leaves, SparesUsers}
 use Rattle.tup_stale.specs.Crash.{ClearStep}
 use Rattle.tup_stale.specs.Files.{SameBeside}
 use Rattle.tup_stale.specs.Unmade.{unmade, standing}
-use Rattle.tup_stale.proofs.Cleared.{no_items, nothing_to_clear, all_made_after, made_if_done, fresh_if_done, leaves_beside}
+use Rattle.tup_stale.proofs.Cleared.{nothing_to_clear, all_made_after, made_if_done, fresh_if_done, leaves_beside}
 use Rattle.tup_stale.proofs.Crashes.{leaves_since}
 use Rattle.tup_stale.proofs.Going.{at_rest}
 use Rattle.tup_stale.proofs.clearing.clear.Goals as goal
@@ -36,7 +37,7 @@ returns-then-len-eq0-clause-leaves g c =
     let world = g.S.Site.world c.args.site.now in
     let tree = world.tree in
     let are = c.in_ok-paths.ensures ∙ ap unmade c.nodes.ensures.value in
-    let none : unmade old.nodes ≡ [] = sym are ∙ no_items c.in_ok-paths.paths (omega (arith, c.len.ensures)) in
+    let none : unmade old.nodes ≡ [] = sym are ∙ nil_from_length c.in_ok-paths.paths (omega (arith, c.len.ensures)) in
     subst (λ (ps : List Names). AtLast g.S.Site.tells ps (standing tree ps) old old world world) (sym none) (nothing_to_clear old c.requires.fresh g.S.Site.tells world)
 
 pub returns-then-len-eq0-clause-all_made : goal.returns-then-len-eq0-clause-all_made
@@ -45,7 +46,7 @@ returns-then-len-eq0-clause-all_made g c =
     let world = g.S.Site.world c.args.site.now in
     let tree = world.tree in
     let are = c.in_ok-paths.ensures ∙ ap unmade c.nodes.ensures.value in
-    let none : unmade old.nodes ≡ [] = sym are ∙ no_items c.in_ok-paths.paths (omega (arith, c.len.ensures)) in
+    let none : unmade old.nodes ≡ [] = sym are ∙ nil_from_length c.in_ok-paths.paths (omega (arith, c.len.ensures)) in
     all_made_after old old (subst (λ (ps : List Names). AtLast g.S.Site.tells ps (standing tree ps) old old world world) (sym none) (nothing_to_clear old c.requires.fresh g.S.Site.tells world)).0
 
 pub returns-clause-others : goal.returns-clause-others

@@ -1,11 +1,11 @@
 use Rattle.std.proofs.Common.{◌≡◌, ◌∙◌, List, [], map, sym, subst}
 use Rattle.std.proofs.lemmas.Bool.{eqb-true}
 use Rattle.std.specs.Prelude.{vec_len}
+use Rattle.std.proofs.lemmas.List.{nil_from_length}
 use Rattle.tup_tell.specs.Parted.{AreCutOff, AreTold}
 use Rattle.tup_tell.specs.declared.event.Event.{Event}
 use Rattle.tup_tell.specs.declared.event.Event.TheVariants.{Read}
 use Rattle.tup_tell.proofs.Parting.{none_at_all}
-use Rattle.tup_top.proofs.Demo.{no_length}
 use Rattle.tup_top.proofs.Reported.{told_none}
 use Rattle.tup_top.proofs.telling.hear_read.Goals as goal
 
@@ -14,7 +14,7 @@ use Rattle.tup_top.proofs.telling.hear_read.Goals as goal
 pub returns-then-is_empty-clause-all : goal.returns-then-is_empty-clause-all
 returns-then-is_empty-clause-all g c = λ _.
     let list = c.args.tellers.now in
-    let none : list.items ≡ [] = no_length list.items (sym list.ok.0 ∙ eqb-true (vec_len list) 0 (sym c.is_empty.ensures ∙ c.if-is_empty.true)) in
+    let none : list.items ≡ [] = nil_from_length list.items (sym list.ok.0 ∙ eqb-true (vec_len list) 0 (sym c.is_empty.ensures ∙ c.if-is_empty.true)) in
     told_none g.T.Reporter.told g.T.Reporter.faults (map Read c.args.folders.now) list.items list.items c.nobody.result.items none none c.nobody.ensures
 
 -- all are told

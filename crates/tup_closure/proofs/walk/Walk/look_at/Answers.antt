@@ -1,8 +1,8 @@
 use Rattle.std.proofs.Common.{◌+◌, ◌≤◌, List, ℕ, length, refl, sym, subst, slice_index, take, arith}
 use Rattle.std.specs.Prelude.{Contains}
+use Rattle.tup_readers.proofs.Entries.{none_in}
 use Rattle.tup_closure.specs.Walk.{GoesTo}
 use Rattle.tup_closure.proofs.Asked.{taken}
-use Rattle.tup_closure.proofs.Ordered.{none_in}
 use Rattle.tup_closure.proofs.Stepping.{if_err}
 use Rattle.tup_closure.proofs.Walking.{goes_nowhere, number_more}
 use Rattle.tup_closure.proofs.walk.Walk.look_at.Goals as goal

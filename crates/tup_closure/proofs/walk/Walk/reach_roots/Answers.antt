@@ -1,8 +1,8 @@
-use Rattle.std.proofs.Common.{◌≡◌, ◌+◌, List, ℕ, [], refl, sym, ap, subst, slice_index, take, length, arith}
+use Rattle.std.proofs.Common.{◌≡◌, List, ℕ, refl, sym, ap, subst, slice_index, take, length, arith}
 use Rattle.std.specs.Prelude.{Contains}
+use Rattle.tup_readers.proofs.Entries.{none_in}
 use Rattle.tup_closure.specs.Walk.{GoesTo}
 use Rattle.tup_closure.proofs.Asked.{taken}
-use Rattle.tup_closure.proofs.Ordered.{none_in}
 use Rattle.tup_closure.proofs.Stepping.{fewer_roots, if_err, taken_within}
 use Rattle.tup_closure.proofs.Walking.{goes_nowhere, number_more}
 use Rattle.tup_closure.proofs.walk.Walk.reach_roots.Goals as goal
