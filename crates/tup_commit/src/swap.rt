@@ -3,10 +3,11 @@ ghost use Rattle.std.specs.Prelude.{◌≡◌, IsTrue, OnErr, OnOk, map};
 ghost use Rattle.std.specs.List.{IsDistinct};
 ghost use Rattle.tup_path.specs.Order.{same_path};
 ghost use Rattle.tup_site.specs.World.{TreeStays};
-ghost use Rattle.tup_graph.specs.Swap.{IsSwapped};
+ghost use Rattle.tup_graph.specs.Swap.{IsSwapped, ReadsNew};
+ghost use Rattle.tup_closure.specs.Steps.{HasStepped};
 ghost use Rattle.tup_stored_graph.specs.Cause.{CountsFaults};
 ghost use Rattle.tup_stored_graph.specs.Held.{is_fresh, StandsFor};
-ghost use Rattle.tup_rule_diff.specs.Edits.{SwapStepped, SwapSteppedAtMost, dir_of};
+ghost use Rattle.tup_rule_diff.specs.Edits.{SwapSteppedAtMost, dir_of};
 ghost use Rattle.tup_rule_diff.specs.Order.{AreByFolder};
 ghost use Rattle.tup_commit.specs.Crash.{LeavesSwapped};
 ghost use Rattle.tup_commit.specs.Noted.{SwapsRules};
@@ -16,7 +17,7 @@ use std::sync::ledger::Ledger;
 use tup_closure::Steps;
 use tup_graph::GraphFault;
 use tup_rule::Rule;
-use tup_rule_diff::{Refreshed, swap_edits_are_read, swap_edits_leave};
+use tup_rule_diff::{Refreshed, swap_edits_are_read, swap_edits_lead, swap_edits_leave};
 use tup_site::Site;
 use tup_stored_graph::Graph;
 
@@ -54,13 +55,14 @@ pub fn swap_rules<S: Site, L: Ledger>(
         graph.old.nodes fresh.now.readings fresh.now.gone rules.now }
     ensures known { IsTrue S.tells → S.known site.new ≡ S.known site.old }
     ensures cause { CountsFaults (S.faults site.old) (S.faults site.new) result }
-    ensures steps { OnOk result
-        (SwapStepped graph.old.nodes rules.now steps.old steps.new) }
+    ensures steps { OnOk result (HasStepped graph.new.nodes
+        (ReadsNew graph.old.nodes graph.new.nodes) steps.old steps.new) }
     ensures fewer { OnErr result
         (SwapSteppedAtMost graph.old.nodes rules.now steps.old steps.new) }
 {
     swap_edits_are_read();
     swap_edits_leave();
+    swap_edits_lead();
     let edits = tup_rule_diff::swap_rules(alloc, graph.nodes(), fresh, rules, steps)?;
     graph.commit_edits(alloc, site, edits)
 }

@@ -12,7 +12,7 @@ ghost use Rattle.tup_graph.specs.Graph.{GraphState};
 ghost use Rattle.tup_graph.specs.Opening.{IsGraphOf};
 ghost use Rattle.tup_graph.specs.Swap.{IsSwapped};
 ghost use Rattle.tup_graph.specs.declared.edit.Edit.{Edit as EditValue};
-ghost use Rattle.tup_rule_diff.specs.Edits.{AreSwapEdits, dir_of};
+ghost use Rattle.tup_rule_diff.specs.Edits.{AreSwapEdits, IsLed, dir_of};
 ghost use Rattle.tup_rule_diff.specs.Order.{AreByFolder};
 
 /// A law: the edits of a swap leave the graph that a swap leaves, where no folder was read twice.
@@ -22,6 +22,14 @@ pub fn swap_edits_leave()
         → IsGraphOf entries g → AreSwapEdits g fresh gone rules edits
         → IsDistinct same_path (map dir_of fresh)
         → IsSwapped g fresh gone rules (edited_by g edits) }
+{}
+
+/// A law: they leave a graph of the rules with the records that they keep.
+pub fn swap_edits_lead()
+    ensures { (entries : Standing) (g : GraphState) (fresh : List (Names × Reading))
+        (gone : List Names) (rules : List RuleValue) (edits : List EditValue)
+        → IsGraphOf entries g → AreSwapEdits g fresh gone rules edits
+        → IsLed g rules (edited_by g edits) }
 {}
 
 /// A law: a table whose entries stand for a graph stands for what the edits of a swap leave once it took what they change,

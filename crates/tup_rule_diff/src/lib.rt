@@ -14,5 +14,5 @@ mod putting;
 mod running;
 mod swap;
 
-pub use laws::{swap_edits_are_read, swap_edits_leave};
+pub use laws::{swap_edits_are_read, swap_edits_lead, swap_edits_leave};
 pub use swap::{Refreshed, swap_rules};

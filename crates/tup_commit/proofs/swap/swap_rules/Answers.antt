@@ -3,10 +3,11 @@ use Rattle.tup_graph.specs.Edits.{edited_by}
 use Rattle.tup_graph.specs.Graph.{GraphState}
 use Rattle.tup_graph.specs.Opening.{IsGraphOf}
 use Rattle.tup_table.specs.Table.{entries_in}
-use Rattle.tup_graph.specs.Swap.{IsSwapped}
-use Rattle.tup_closure.proofs.Stepping.{if_err, if_ok}
+use Rattle.tup_graph.specs.Swap.{IsSwapped, ReadsNew}
+use Rattle.tup_closure.specs.Steps.{HasStepped}
+use Rattle.tup_closure.proofs.Stepping.{if_err}
 use Rattle.tup_rule_diff.specs.Edits.{AreSwapEdits, SwapStepped, SwapSteppedAtMost}
-use Rattle.tup_rule_diff.proofs.Led.{swap_no_more}
+use Rattle.tup_rule_diff.proofs.Led.{steps_of, swap_no_more}
 use Rattle.tup_stored_graph.proofs.Fresh.{ok_is_fresh}
 use Rattle.tup_commit.proofs.Noting.{notes, stands_so}
 use Rattle.tup_commit.proofs.Crashes.{by_commit, by_nothing}
@@ -60,7 +61,13 @@ returns-in_err-edits-clause-fewer g c =
 
 pub returns-clause-steps : goal.returns-clause-steps
 returns-clause-steps g c =
-    if_ok c.commit_edits.result (subst (λ (nodes : GraphState). SwapStepped nodes c.args.rules.now c.args.steps.now c.swap_rules.new.steps) c.nodes.ensures.value c.in_ok-edits.ensures.steps)
+    let old = c.args.graph.now in
+    let edits = c.in_ok-edits.edits in
+    let are = subst (λ (nodes : GraphState). AreSwapEdits nodes c.args.fresh.now.readings c.args.fresh.now.gone c.args.rules.now edits) c.nodes.ensures.value c.in_ok-edits.ensures.edits in
+    let led = c.swap_edits_lead.ensures (entries_in old.table) old.nodes c.args.fresh.now.readings c.args.fresh.now.gone c.args.rules.now edits (subst (λ (nodes : GraphState). IsGraphOf (entries_in old.table) nodes) c.nodes.ensures.value (c.nodes.ensures.graph c.requires.fresh)) are in
+    let stepped = subst (λ (nodes : GraphState). SwapStepped nodes c.args.rules.now c.args.steps.now c.swap_rules.new.steps) c.nodes.ensures.value c.in_ok-edits.ensures.steps in
+    stands_so (AreSwapEdits old.nodes c.args.fresh.now.readings c.args.fresh.now.gone c.args.rules.now) (λ (h : GraphState). HasStepped h (ReadsNew old.nodes h) c.args.steps.now c.swap_rules.new.steps) old edits are c.commit_edits.new.self c.args.site.now c.commit_edits.new.site
+    (steps_of old.nodes c.args.rules.now (edited_by old.nodes edits) led c.args.steps.now c.swap_rules.new.steps stepped) c.commit_edits.result c.commit_edits.ensures.leaves
 
 pub returns-clause-fewer : goal.returns-clause-fewer
 returns-clause-fewer g c =
