@@ -6,4 +6,5 @@ pub mod Stays
 pub mod Told
 pub mod Logged
 mod Telling
+mod Finishing
 pub mod Starting

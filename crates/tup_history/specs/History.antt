@@ -16,7 +16,7 @@ use Rattle.tup_top.specs.declared.status.Status.{Status}
 use Rattle.tup_history.specs.Chain.{Leads}
 use Rattle.tup_history.specs.Kept.{IsKept}
 use Rattle.tup_history.specs.Deed.{IsCarriedOut, IsUntouched, Refuses}
-use Rattle.tup_history.specs.Run.{SaysDone, Keeps, Leaves, Updates, Lets, left_then, left_behind}
+use Rattle.tup_history.specs.Run.{SaysDone, Finishes, Keeps, Leaves, Updates, Lets, left_then, left_behind}
 use Rattle.tup_history.specs.Telling.{HasPrinted, HasRun, told_by}
 use Rattle.tup_history.specs.declared.turn.Turn.{Turn}
 use Rattle.tup_history.specs.declared.turn.Turn.TheVariants.{Deed, Run}
@@ -69,6 +69,7 @@ pub record TakesRun (tells : Bool) (next : Next) (words : List Word) (stop_after
   pub begins : Lets (left_then stop_after (left_of from.site)) from.site begun
   pub keeps : Keeps tells next (order words) (world_in begun) (world_in ended) (counted begun from) (counted ended to) status end.ran
   pub leaves : Leaves (order words) begun ended status
+  pub finishes : Finishes tells next (order words) begun ended (counted begun from) (counted ended to) status
   pub updates : IsTrue tells → IsKept next begun → Updates next (length from.runners) (order words) begun ended status end.ran
   pub runs : (before now : List (List (Names × List ℕ))) → from.commands ≡ Some before → to.commands ≡ Some now → HasRun tells next (order words) (length from.runners) (world_in begun) before now status end.ran
   pub prints : (held holds : List ℕ) → from.held ≡ Some held → to.held ≡ Some holds → HasPrinted tells next (order words) (length from.runners) begun ended from.sink to.sink held holds status end.ran

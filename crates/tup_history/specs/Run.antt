@@ -33,6 +33,7 @@ use Rattle.tup_top.specs.Order.{Wanted, BringsUp, IsUpdate, goes_on, used}
 use Rattle.tup_top.specs.Promise.{FindsOut, ForUpdate, ForInit, ForTodo, ForVerify, Lasts, NothingDone, OnceDone, OpensStore, QuietStep, Counts, HasPlainCause, Initializes, Compares, Logs, Spares}
 use Rattle.tup_top.specs.Printed.{IsDone}
 use Rattle.tup_top.specs.Status.{status_of}
+use Rattle.tup_top.specs.Success.{Lists, Succeeds}
 use Rattle.tup_top.specs.declared.status.Status.{Status}
 use Rattle.tup_top.specs.declared.status.Status.TheVariants.{Done, Memory, SinkFault, TellFault}
 use Rattle.tup_history.specs.Kept.{IsKept}
@@ -99,6 +100,12 @@ pub record Updates (next : Next) (many : ℕ) (wanted : Wanted) (old new : MemSi
   pub users : HasUsersFile (world_in old) → ForUpdate wanted status (IsHeldUp memory.ghosts old new ran)
   pub crash : BringsUp wanted → IsKeptSite next tupfiles (known_in new) (world_in old) (left_since new (moment_of old))
   pub kept : BringsUp wanted → IsKept next new
+
+-- What a run is answered that nothing stands in the way of, where nothing failed: an update of a kept project is done, if its runners tell,
+-- and what an update would do is found out; unless there was no memory.
+pub record Finishes (tells : Bool) (next : Next) (wanted : Wanted) (old new : MemSite) (before now : Counts) (status : Status) : Type 0 where
+  pub success : IsTrue tells → IsKept next old → Succeeds wanted memory.ghosts next old new before now ⊤ status
+  pub lists : ((any : Next) × IsKept any old) → Lists wanted (world_in old) (world_in new) before now ⊤ status
 
 -- ---- the calls that pass
 

@@ -6,7 +6,8 @@ ghost use Rattle.tup_top.specs.Crew.{IsCrew};
 ghost use Rattle.tup_top.specs.Order.{order};
 ghost use Rattle.tup_top.specs.Promise.{counts};
 ghost use Rattle.tup_history.specs.Kept.{IsKept};
-ghost use Rattle.tup_history.specs.Run.{Keeps, Leaves, Updates, Lets, left_then, left_behind};
+ghost use Rattle.tup_history.specs.Run.{Finishes, Keeps, Leaves, Updates};
+ghost use Rattle.tup_history.specs.Run.{Lets, left_then, left_behind};
 ghost use Rattle.tup_history.specs.Telling.{HasPrinted, HasRun, told_by};
 
 use std::alloc::Global;
@@ -45,6 +46,10 @@ pub(crate) fn run<W: Threads + Wait + Sync, R: Runner + Send, K: Sink>(
         HasPrinted R.tells R.next (order words.now) many site result.site
         (K.faults out.old) (K.faults out.new) held holds result.status result.ran }
     ensures leaves { Leaves (order words.now) site result.site result.status }
+    ensures finishes { let counted = counts faults_of R.faults K.faults in
+        let before = counted site crew.items out.old in
+        let now = counted result.site result.crew.items out.new in
+        Finishes R.tells R.next (order words.now) site result.site before now result.status }
     ensures updates { IsTrue R.tells → IsKept R.next site
         → let many = length (map R.faults crew.items) in
         Updates R.next many (order words.now) site result.site result.status result.ran }

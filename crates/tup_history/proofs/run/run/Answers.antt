@@ -9,11 +9,13 @@ use Rattle.tup_promise.specs.Kept.{IsKeptBySome, KeptHere}
 use Rattle.tup_promise.specs.Needed.{OnlyWhatIsNeeded}
 use Rattle.tup_top.specs.Order.{goes_on, order, used}
 use Rattle.tup_top.specs.Printed.{SaysWhyOf, hears_none}
-use Rattle.tup_top.specs.Promise.{ForUpdate, Logs}
+use Rattle.tup_top.specs.Promise.{ForUpdate, IsDoneOrMemory, Logs}
+use Rattle.tup_top.specs.Success.{IsDoneOrNoRoom}
 use Rattle.tup_top.specs.Truth.{IsTrueLog}
 use Rattle.tup_top.proofs.Reported.{heard_none}
 use Rattle.tup_history.specs.Run.{HasTrueLog}
 use Rattle.tup_history.specs.Telling.{HasPrinted, HasRun, IsTrueThere}
+use Rattle.tup_history.proofs.Finishing.{ends_well}
 use Rattle.tup_history.proofs.Logged.{true_log}
 use Rattle.tup_history.proofs.Telling.{has_run, prints_less, told_so}
 use Rattle.tup_history.proofs.run.run.Goals as goal
@@ -82,6 +84,17 @@ returns-clause-leaves g c = record {
   lasts = c.tup.ensures.lasts refl;
   known = c.tup.ensures.known refl;
   found_out = c.tup.ensures.found_out refl;
+}
+
+pub returns-clause-finishes : goal.returns-clause-finishes
+returns-clause-finishes g c = record {
+  success = λ means kept updates can fine _.
+      let tells = c.tup.ensures.tells updates in
+      let here : KeptHere memory.ghosts g.R.Runner c.args.site = record { tells = refl; means = means; kept = kept } in
+      ends_well _ _ _ _ _ c.new-tellers.ensures.items IsDoneOrNoRoom tt tells.log _ tells.status c.tup.result.status _ _ tells.heard tells.ends (λ all_told. c.tup.ensures.success here updates can fine all_told);
+  lists = λ some finds can fine _.
+      let tells = c.tup.ensures.tells_todo finds in
+      ends_well _ _ _ _ _ c.new-tellers.ensures.items IsDoneOrMemory tt _ _ tells.status c.tup.result.status _ _ tells.heard tells.ends (λ all_told. c.tup.ensures.lists refl some finds can fine all_told);
 }
 
 pub returns-clause-updates : goal.returns-clause-updates
