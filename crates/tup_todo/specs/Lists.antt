@@ -12,20 +12,22 @@ use Rattle.tup_promise.specs.declared.stop.Stop.{Stop}
 use Rattle.tup_todo.specs.Listing.{due_rules}
 use Rattle.tup_todo.specs.declared.todo.Todo.{Todo}
 
--- What an update would do that begins in a world, by what stands in the store of the world that is left.
+-- What an update would do that begins in a world, by what stands in the store of the world that is left. The same is to be done there.
 pub record ListsWhatIsDue (old new : World) (todo : Todo) : Type 0 where
-  -- the graph that stands there has the rules that the sources ask for
+  -- the graph that stands there has the rules that the sources ask for, in both worlds
   pub graph : GraphState
   pub stored : IsGraphIn new.store graph
   pub rules : AsksFor old graph.rules
+  pub still : AsksFor new graph.rules
   -- just those of them are flagged that are due in the one world, and just those that are due in the other
   pub due : (number : ℕ) → (is_flagged graph number ≡ true) ↔ IsDue old graph.rules number
   pub again : (number : ℕ) → (is_flagged graph number ≡ true) ↔ IsDue new graph.rules number
   -- they are listed in the order of the rules
   pub runs : todo.runs ≡ due_rules graph
-  -- just the folders are listed as read whose Tupfile had to be read, and just the files that an update has to remove
+  -- just the folders are listed as read whose Tupfile had to be read, and just the files that an update has to remove, in both worlds
   pub read : ReadsWhatIsDue old todo.read
   pub removes : RemovesWhatIsUnmade old todo.removes
+  pub goes : RemovesWhatIsUnmade new todo.removes
 
 -- how it went on from its store, which may be empty or damaged; no rule was begun
 abbrev pub GoesOnFromStore : World → World → Option Stop → Type 0

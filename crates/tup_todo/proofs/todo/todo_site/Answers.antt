@@ -1,4 +1,4 @@
-use Rattle.std.proofs.Common.{inl, ap, subst, ◌∙◌}
+use Rattle.std.proofs.Common.{inl, refl, ap, subst, ◌∙◌}
 use Rattle.tup_table.specs.Entries.{entries_of}
 use Rattle.tup_table.specs.Table.{entries_in}
 use Rattle.tup_graph.specs.Opening.{IsGraphOf}
@@ -16,6 +16,7 @@ use Rattle.tup_phases.proofs.Removing.{removes_these}
 use Rattle.tup_phases.proofs.Within.{own_within}
 use Rattle.tup_todo.specs.Listing.{due_rules, vanished}
 use Rattle.tup_todo.specs.Lists.{GoesOnFromStore}
+use Rattle.tup_todo.proofs.Foretold.{asked_still, brought_there}
 use Rattle.tup_todo.proofs.Listed.{vanished_stand}
 use Rattle.tup_todo.proofs.todo.todo_site.Goals as goal
 
@@ -210,15 +211,22 @@ returns-clause-lists g c = λ tells next kept.
     let brought = c.in_ok-graph.ensures.brought tells next kept in
     let here = own_within left graph.nodes stored (c.flags_are_of_rules.ensures (entries_of stored.commits) graph.nodes stored.graph) in
     let removes_are = c.in_ok-removes.ensures ∙ ap vanished c.nodes.ensures.value ∙ vanished_stand graph.nodes left.tree seen in
+    let sources = returns-clause-sources_stay g c tells (next, kept) in
+    let still = asked_still first left graph.nodes.rules (sources.each left (site_laws.earlier at since (g.S.Site.moment at) left tells sources.later (site_laws.present at tells))) brought.rules in
+    let again =
+    brought_there next known left graph.nodes is_kept stored brought.created still
+    (λ number. (here.due number, due_flagged next known left graph.nodes is_kept (λ path _. seen path) stored number)) in
     record {
       graph = graph.nodes;
       stored = stored;
       rules = brought.rules;
+      still = still;
       due = brought.due;
-      again = λ number. (here.due number, due_flagged next known left graph.nodes is_kept (λ path _. seen path) stored number);
+      again = again.due;
       runs = c.in_ok-runs.ensures ∙ ap due_rules c.nodes-2.ensures.value;
       read = c.in_ok-graph.ensures.reads tells next kept;
       removes = removes_these first graph.nodes left.tree brought (c.surveyed.ensures.files tells).tree _ removes_are;
+      goes = removes_these left graph.nodes left.tree again refl _ removes_are;
     }
 
 -- ---- what a crash may leave of a store that can't be read
