@@ -162,17 +162,17 @@ module _ {S R : Type 0} (site : Site S) (runner : Runner R) (course : CourseStat
   enabled_there event enabled = to_course site runner course first_graph graph first_site s lost given files sound view (λ c. IsEnabled c.plan (now c) event) enabled
 
   -- ---- stops for a refusal
-  pub site_kept : (seat : ℕ) (new : CourseState) → RunsRule (course_of given) seat → IsTrueFault site given seat fault_by.Site → new ≡ with_events course (Stop seat cause_by.Site ∷ []) → Keeps new
+  pub site_kept : (seat : ℕ) (new : CourseState) → RunsRule (course_of given) seat → IsTrueFault site runner given seat fault_by.Site → new ≡ with_events course (Stop seat cause_by.Site ∷ []) → Keeps new
   site_kept seat new it holds is =
       refused_kept site runner course first_graph graph first_site s lost given files sound view seat cause_by.Site new it.runs.within (λ e. cc)
       (site_true site runner course first_graph graph first_site s lost given files sound view seat holds) is
 
-  pub large_kept : (seat bytes : ℕ) (new : CourseState) → RunsRule (course_of given) seat → IsTrueFault site given seat (fault_by.TooLarge bytes) → new ≡ with_events course (Stop seat (cause_by.TooLarge bytes) ∷ []) → Keeps new
+  pub large_kept : (seat bytes : ℕ) (new : CourseState) → RunsRule (course_of given) seat → IsTrueFault site runner given seat (fault_by.TooLarge bytes) → new ≡ with_events course (Stop seat (cause_by.TooLarge bytes) ∷ []) → Keeps new
   large_kept seat bytes new it holds is =
       refused_kept site runner course first_graph graph first_site s lost given files sound view seat (cause_by.TooLarge bytes) new it.runs.within (λ e. cc)
       (large_true site runner course first_graph graph first_site s lost given files sound view seat bytes holds) is
 
-  pub full_kept : (seat : ℕ) (new : CourseState) → RunsRule (course_of given) seat → IsTrueFault site given seat fault_by.Full → new ≡ with_events course (Stop seat cause_by.Full ∷ []) → Keeps new
+  pub full_kept : (seat : ℕ) (new : CourseState) → RunsRule (course_of given) seat → IsTrueFault site runner given seat fault_by.Full → new ≡ with_events course (Stop seat cause_by.Full ∷ []) → Keeps new
   full_kept seat new it holds is =
       refused_kept site runner course first_graph graph first_site s lost given files sound view seat cause_by.Full new it.runs.within (λ e. cc)
       (full_true site runner course first_graph graph first_site s lost given files sound view seat holds) is
@@ -243,9 +243,9 @@ module _ {S R : Type 0} (site : Site S) (runner : Runner R) (course : CourseStat
     counts_there : CountsFaults (site.faults given.site) (site.faults read.site) None (found_not fault)
     counts_there = subst (λ (x : S). CountsFaults (site.faults x) (site.faults read.site) None (found_not fault)) (sym site_is) counts
 
-    pub fault_true : IsTrueFault site after_read seat fault
+    pub fault_true : IsTrueFault site runner after_read seat fault
     fault_true =
-        subst (λ (b : BoardState S). IsTrueFault site b seat fault) (sym read_seen)
+        subst (λ (b : BoardState S). IsTrueFault site runner b seat fault) (sym read_seen)
         (visit_true site runner given (sound_seen site runner before given sound view) seat text path for_it read.site fault other same_world large named_there counts_there)
 
     pub fault_after : Asks site seat text given (Err fault) (with_history after_read (after_read.history ++ stops_by seat fault))

@@ -107,19 +107,19 @@ module _ {S R : Type 0} (site : Site S) (runner : Runner R) (b : BoardState S) (
             by (Some commit) some =
                 subst (λ (it : Ground S). IsSound site runner (record b { site = it.site; graph = it.graph; lost = it.lost })) (sym (makes.idle commit some).0) sound
 
-        pub refused_true : (IsTrue (is_fresh new.graph) → IsGraphOf (entries_in new.graph.table) new.graph.nodes) → IsTrueFault site then_refused seat fault
+        pub refused_true : (IsTrue (is_fresh new.graph) → IsGraphOf (entries_in new.graph.table) new.graph.nodes) → IsTrueFault site runner then_refused seat fault
         refused_true law_after = by b.lost refl
           where
-            lost_true : (commit : Lost) → b.lost ≡ Some commit → (by_site : Bool) → commit.by_site ≡ by_site → IsTrueFault site b seat (if by_site then fault_by.Site else fault_by.Memory)
+            lost_true : (commit : Lost) → b.lost ≡ Some commit → (by_site : Bool) → commit.by_site ≡ by_site → IsTrueFault site runner b seat (if by_site then fault_by.Site else fault_by.Memory)
             lost_true commit some true is = (sound.lost commit some).cause is
             lost_true commit some false is = tt
 
-            by : (lost : Option Lost) → b.lost ≡ lost → IsTrueFault site then_refused seat fault
+            by : (lost : Option Lost) → b.lost ≡ lost → IsTrueFault site runner then_refused seat fault
             by None none =
                 refusal_true site runner b sound none (is_graph none) present earlier knows_tree seat number run files kept good_end.writes ends result new (makes.makes none) (counts_here none) fault refused law_after
             by (Some commit) some =
-                subst (λ (it : Ground S). IsTrueFault site (record b { site = it.site; graph = it.graph; lost = it.lost }) seat fault) (sym (makes.idle commit some).0)
-                (subst (IsTrueFault site b seat) (made_refused (lost_fault commit) fault (sym (makes.idle commit some).1 ∙ refused)) (lost_true commit some commit.by_site refl))
+                subst (λ (it : Ground S). IsTrueFault site runner (record b { site = it.site; graph = it.graph; lost = it.lost }) seat fault) (sym (makes.idle commit some).0)
+                (subst (IsTrueFault site runner b seat) (made_refused (lost_fault commit) fault (sym (makes.idle commit some).1 ∙ refused)) (lost_true commit some commit.by_site refl))
 
         pub refused_ends : Ends site seat ended b (Err fault) (with_history then_refused (b.history ++ stops_by seat fault))
         refused_ends = ends_refused site b seat number run files ended kept good_end.writes judged_here result new makes counts fault refused
@@ -191,7 +191,7 @@ module _ {S R : Type 0} (site : Site S) (runner : Runner R) (b given : BoardStat
       pub refused_kept_here : (fault : BoardFault) → result ≡ Err fault → IsSound site runner now_refused
       refused_kept_here = refused_sound site runner b sound seat dir text asks ended report_here means files judged_so number run event good_so law_before present earlier knows_tree result new makes counts
 
-      pub refused_true_here : (fault : BoardFault) → result ≡ Err fault → (IsTrue (is_fresh new.graph) → IsGraphOf (entries_in new.graph.table) new.graph.nodes) → IsTrueFault site now_refused seat fault
+      pub refused_true_here : (fault : BoardFault) → result ≡ Err fault → (IsTrue (is_fresh new.graph) → IsGraphOf (entries_in new.graph.table) new.graph.nodes) → IsTrueFault site runner now_refused seat fault
       refused_true_here = refused_true site runner b sound seat dir text asks ended report_here means files judged_so number run event good_so law_before present earlier knows_tree result new makes counts
 
       pub refused_seen : (fault : BoardFault) → result ≡ Err fault → (after : BoardState S) → after ≡ with_history now_refused (b.history ++ stops_by seat fault) → Ends site seat ended given (Err fault) after

@@ -33,8 +33,7 @@ use Rattle.tup_rule_outputs.specs.Lost.{Lost}
 use Rattle.tup_rule_outputs.specs.declared.fault.BoardFault.TheVariants as fault_by
 use Rattle.tup_board.specs.Board.{BoardState, course_of, plan_of, start, state, with_history}
 use Rattle.tup_board.specs.Calls.{MeansDenied}
-use Rattle.tup_board.specs.Cause.{IsTrueCause}
-use Rattle.tup_board.specs.Sound.{IsSound, IsTrueFault, Since}
+use Rattle.tup_board.specs.Sound.{IsSound, IsTrueFault, IsTrueNow}
 use Rattle.tup_board.proofs.Sounds.{IsHonestEvent, IsQuiet, ask_quiet, bad_quiet, cause_on, cause_stays, deny_quiet, sound_claim, sound_more, sound_stop, stop_quiet}
 
 -- the causes for which a caller stops aren't a bad verdict
@@ -108,7 +107,7 @@ module _ {S R : Type 0} (site : Site S) (runner : Runner R) (b : BoardState S) (
   stopped_is = ap (λ (s : State). s.stopped) (finished_is (plan_of b) (state b) seat running verdict [] here ∙ bad_ended (plan_of b) (emptied (state b) seat) running.rule verdict [] bad)
 
   abbrev TrueNow : Cause → Type 0
-  TrueNow c = IsTrueCause next_is (site.faults b.opening.site) (site.faults b.site) site.tells (site.world b.site) (Since site b) c
+  TrueNow c = IsTrueNow site runner next_is c
 
   cause_now : (keeps : Bool) (why : Option Cause) → (plan_of b).keep_going ≡ keeps → (state b).stopped ≡ why → (cause : Cause) → (state next_is).stopped ≡ Some cause → TrueNow cause
   cause_now true why keeps was cause stopped =
@@ -178,24 +177,24 @@ module _ {S R : Type 0} (site : Site S) (runner : Runner R) (course : CourseStat
 
     -- ---- a stop for a refusal that is true
     pub refused_kept : (seat : ℕ) (cause : Cause) (new : CourseState) → seat < 16 → (cause ≡ Bad → ⊥)
-        → IsTrueCause (with_history (board_at course) (course.history ++ Stop seat cause ∷ [])) (site.faults first_site) (site.faults s) site.tells (site.world s) (Since site (board_at course)) cause
+        → IsTrueNow site runner (with_history (board_at course) (course.history ++ Stop seat cause ∷ [])) cause
         → new ≡ with_events course (Stop seat cause ∷ []) → KeepsBoard new
     refused_kept seat cause new within other holds is = kept_more new (Stop seat cause) is (sound_stop site runner (board_at course) sound seat cause within other holds)
 
     -- a refusal that is true of a board is, as a cause, once it stopped by it
-    pub site_true : (seat : ℕ) → IsTrueFault site given seat fault_by.Site
-        → IsTrueCause (with_history (board_at course) (course.history ++ Stop seat ByVisit ∷ [])) (site.faults first_site) (site.faults s) site.tells (site.world s) (Since site (board_at course)) ByVisit
-    site_true seat holds = subst (λ (b : BoardState S). IsTrueFault site b seat fault_by.Site) (sym view) holds
+    pub site_true : (seat : ℕ) → IsTrueFault site runner given seat fault_by.Site
+        → IsTrueNow site runner (with_history (board_at course) (course.history ++ Stop seat ByVisit ∷ [])) ByVisit
+    site_true seat holds = subst (λ (b : BoardState S). IsTrueFault site runner b seat fault_by.Site) (sym view) holds
 
-    pub large_true : (seat bytes : ℕ) → IsTrueFault site given seat (fault_by.TooLarge bytes)
-        → IsTrueCause (with_history (board_at course) (course.history ++ Stop seat (TooLarge bytes) ∷ [])) (site.faults first_site) (site.faults s) site.tells (site.world s) (Since site (board_at course)) (TooLarge bytes)
+    pub large_true : (seat bytes : ℕ) → IsTrueFault site runner given seat (fault_by.TooLarge bytes)
+        → IsTrueNow site runner (with_history (board_at course) (course.history ++ Stop seat (TooLarge bytes) ∷ [])) (TooLarge bytes)
     large_true seat bytes holds =
-        cause_on site runner (board_at course) (Stop seat (TooLarge bytes)) (stop_quiet (plan_of (board_at course)) (state (board_at course)) seat (TooLarge bytes)) (site.faults first_site) (site.faults s) site.tells
-        (site.world s) (Since site (board_at course)) (TooLarge bytes) (subst (λ (b : BoardState S). IsTrueFault site b seat (fault_by.TooLarge bytes)) (sym view) holds)
+        cause_on site runner (board_at course) (Stop seat (TooLarge bytes)) (stop_quiet (plan_of (board_at course)) (state (board_at course)) seat (TooLarge bytes)) (TooLarge bytes)
+        (subst (λ (b : BoardState S). IsTrueFault site runner b seat (fault_by.TooLarge bytes)) (sym view) holds)
 
-    pub full_true : (seat : ℕ) → IsTrueFault site given seat fault_by.Full
-        → IsTrueCause (with_history (board_at course) (course.history ++ Stop seat Full ∷ [])) (site.faults first_site) (site.faults s) site.tells (site.world s) (Since site (board_at course)) Full
-    full_true seat holds = subst (λ (b : BoardState S). IsTrueFault site b seat fault_by.Full) (sym view) holds
+    pub full_true : (seat : ℕ) → IsTrueFault site runner given seat fault_by.Full
+        → IsTrueNow site runner (with_history (board_at course) (course.history ++ Stop seat Full ∷ [])) Full
+    full_true seat holds = subst (λ (b : BoardState S). IsTrueFault site runner b seat fault_by.Full) (sym view) holds
 
     -- what callers see of two courses, and of the board after
     pub rest_seen : (new : CourseState) → KeepsBoard new → board_at new ≡ with_history given new.history
@@ -233,8 +232,7 @@ module _ {S R : Type 0} (site : Site S) (runner : Runner R) (course : CourseStat
       where
         TrueAfter : Cause → Type 0
         TrueAfter c =
-            IsTrueCause (with_history (board_at course) (course.history ++ Stop seat cause ∷ [])) (site.faults first_site) (site.faults s) site.tells (site.world s)
-            (Since site (board_at course)) c
+            IsTrueNow site runner (with_history (board_at course) (course.history ++ Stop seat cause ∷ [])) c
 
         holds : (cause ≡ Run) ⊎ (cause ≡ Memory) → TrueAfter cause
         holds (inl is) = subst TrueAfter (sym is) tt

@@ -52,16 +52,16 @@ use Rattle.tup_rule_outputs.specs.Fault.{CountsFaults, lost_fault}
 use Rattle.tup_rule_outputs.specs.Ground.{HoldsFiles, IsBegun, IsEnded, IsNotBegun, LostStep, MakeStep, MakesFiles, WasTried}
 use Rattle.tup_rule_outputs.specs.Lost.{Lost}
 use Rattle.tup_board.specs.Board.{BoardState, course_of, plan_of, first_graph, start, state, with_history}
-use Rattle.tup_board.specs.Cause.{IsTrueCause, HasNoRoom, stops_by}
+use Rattle.tup_board.specs.Cause.{HasNoRoom, stops_by}
 use Rattle.tup_board.specs.Come.{HasComeTo, IsPresent, WasToKeep}
 use Rattle.tup_board.specs.Ends.{CouldEnd, HasEnded, IsRecordOf}
 use Rattle.tup_board.specs.Images.{IsImageOver, LeavesImages, StandsUnmade}
 use Rattle.tup_board.specs.Outputs.{IsPending, Makes}
-use Rattle.tup_board.specs.Sound.{FlagsPending, IsImage, IsSound, IsTrueFault, WasToHappen, Since, Before}
+use Rattle.tup_board.specs.Sound.{FlagsPending, IsImage, IsSound, IsTrueFault, IsTrueNow, WasToHappen, Since, Before}
 use Rattle.tup_board.proofs.Coming.{outputs_are}
 use Rattle.tup_board.proofs.Finishing.{claimed, come_begun, come_done, come_then, flagged, in_graph, other_outputs, placed, present_done, same_or_other, unflagged_on}
 use Rattle.tup_board.proofs.Imaging.{begun_unmade, done_unmade, is_begun, is_done, not_begun, not_begun_unmade}
-use Rattle.tup_board.proofs.Known.{honest_known, keeps_all, known_among}
+use Rattle.tup_board.proofs.Known.{ends_more, honest_known, keeps_all, known_among}
 use Rattle.tup_board.proofs.WasRead.{rose_on, rose_since}
 use Rattle.tup_board.proofs.Seated.{orderly}
 use Rattle.tup_board.proofs.Sounds.{IsHonestEvent, honest_more}
@@ -182,10 +182,13 @@ module _ {S R : Type 0} (site : Site S) (runner : Runner R) (b : BoardState S) (
   more_known : IsTrue site.tells → (content : Content) → Contains (site.known b.site) content → Contains (site.known new.site) content
   more_known told = keeps_all (site.known b.site) (site.known new.site) (makes.known told)
 
-  files_known : tried → IsTrue site.tells → All (λ (file : Names × Content). Contains (site.known new.site) file.1) files
-  files_known was told =
+  standing_known : IsTrue site.tells → HoldsFiles files (site.world new.site).tree → All (λ (file : Names × Content). Contains (site.known new.site) file.1) files
+  standing_known told stand =
       All-weaker (λ (file : Names × Content). finite.get (site.world new.site).tree file.0 ≡ Some file.1) (λ (file : Names × Content). Contains (site.known new.site) file.1)
-      (λ file is. known_among (site.known new.site) file.1 (knows_tree new.site told file.0 file.1 is)) files (makes.made was told)
+      (λ file is. known_among (site.known new.site) file.1 (knows_tree new.site told file.0 file.1 is)) files stand
+
+  files_known : tried → IsTrue site.tells → All (λ (file : Names × Content). Contains (site.known new.site) file.1) files
+  files_known was told = standing_known told (makes.made was told)
 
   -- each world that a crash right before may leave has the graph
   stored : IsTrue site.tells → (w : World) → site.left_since b.site (site.moment b.site) w → IsStoreOf g w.store
@@ -408,8 +411,7 @@ module _ {S R : Type 0} (site : Site S) (runner : Runner R) (b : BoardState S) (
       pending_on : (path : Names) → IsPending (plan_of b) (state then_board) path → IsPending (plan_of b) (state b) path
       pending_on path it = (it.0, pending_back it.0 it.1, it.2)
 
-      cause_on : (cause : Cause) → IsTrueCause b (site.faults b.opening.site) (site.faults b.site) site.tells (site.world b.site) (Since site b) cause
-          → IsTrueCause then_board (site.faults b.opening.site) (site.faults new.site) site.tells (site.world new.site) (Since site then_board) cause
+      cause_on : (cause : Cause) → IsTrueNow site runner b cause → IsTrueNow site runner then_board cause
       cause_on causes.Site it = rose it
       cause_on (causes.TooLarge bytes) it = (
         it.0,
@@ -434,7 +436,9 @@ module _ {S R : Type 0} (site : Site S) (runner : Runner R) (b : BoardState S) (
           run = full.2.run;
           whole = whole ∙ ap (λ (events : List CoreEvent). events ++ more) full.2.whole ∙ append_assoc full.2.before _ more;
           kept = full.2.kept;
-          full = full.2.full;
+          full = ⊎_elim inl
+              (λ end. inr (end.0, λ both. ends_more (site.known b.site) (site.known new.site) (more_known both.0) runner.next full.2.kept.rule full.2.kept.running None Good full.2.run.writes (end.1 both)))
+              full.2.full;
         },
       )
       cause_on causes.Bad it = it
@@ -502,7 +506,8 @@ module _ {S R : Type 0} (site : Site S) (runner : Runner R) (b : BoardState S) (
         by (Some commit) is = absurd (lost_never_full commit (same_fault (lost_fault commit) fault_by.Full (sym (makes.lost commit is).fault ∙ refused ∙ ap Err full)))
 
     no_room : IsTrue site.tells → (is_graph_now : IsGraphOf (entries_in new.graph.table) new.graph.nodes) → fault ≡ fault_by.Full
-        → (w : World) × Since site refused_board w × HasNoRoom (with_history refused_board (b.history ++ stops_by seat fault_by.Full)) w.store
+        → (w : World) × Since site refused_board w
+        × HasNoRoom (with_history refused_board (b.history ++ stops_by seat fault_by.Full)) w.store (IsTrue site.tells × IsTrue runner.tells) (EndsHonestly runner.next (site.known new.site))
     no_room told is_graph_now full =
         let stands = makes.is_ground.stands told (still_fresh full) in (
           site.world new.site,
@@ -519,7 +524,10 @@ module _ {S R : Type 0} (site : Site S) (runner : Runner R) (b : BoardState S) (
             kept = kept;
             full = elim (makes.full (refused ∙ ap Err full)) [
               | inl first ↦ inl (subst (λ (h : Held). IsFull h (begin_edits h.nodes number)) (sym first.1) first.0)
-              | inr last ↦ inr (subst (λ (h : Held). IsFull h (finish_edits h.nodes number run)) (sym last.1) last.0)
+              | inr last ↦ inr (
+                subst (λ (h : Held). IsFull h (finish_edits h.nodes number run)) (sym last.1) last.0,
+                λ both. ends both.0 both.1 (site.known new.site) (more_known both.0) (standing_known both.0 (last.2 both.0)),
+              )
             ];
           },
         )
@@ -527,10 +535,10 @@ module _ {S R : Type 0} (site : Site S) (runner : Runner R) (b : BoardState S) (
         later_is : site.moment b.opening.site ≤ site.moment new.site
         later_is = let first = sound.later told in let last = (makes.crash told).later in omega (arith, first, last)
 
-    pub refusal_true : (IsTrue (is_fresh new.graph) → IsGraphOf (entries_in new.graph.table) new.graph.nodes) → IsTrueFault site refused_board seat fault
+    pub refusal_true : (IsTrue (is_fresh new.graph) → IsGraphOf (entries_in new.graph.table) new.graph.nodes) → IsTrueFault site runner refused_board seat fault
     refusal_true law = by fault refl
       where
-        by : (it : BoardFault) → fault ≡ it → IsTrueFault site refused_board seat it
+        by : (it : BoardFault) → fault ≡ it → IsTrueFault site runner refused_board seat it
         by fault_by.Site is =
             ⊎_elim (λ rises. rose_since (site.faults b.opening.site) (site.faults b.site) (site.faults new.site) sound.counted rises) (λ was. absurd (none-some was.0 was.1))
             (counts.site (refused ∙ ap Err is))

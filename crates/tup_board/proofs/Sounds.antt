@@ -27,12 +27,11 @@ use Rattle.tup_core.specs.Step.{State, IsEnabled, after, emptied, ended}
 use Rattle.tup_core.proofs.Changed.{changed_cases}
 use Rattle.tup_core.proofs.Orderly.{finished_is}
 use Rattle.tup_board.specs.Board.{BoardState, plan_of, start, state, with_history}
-use Rattle.tup_board.specs.Cause.{IsTrueCause}
 use Rattle.tup_board.specs.Come.{HasCome, HasComeTo}
 use Rattle.tup_board.specs.Ends.{HasEnded, CouldEnd}
 use Rattle.tup_board.specs.Images.{IsImageOver}
 use Rattle.tup_board.specs.Outputs.{IsPending}
-use Rattle.tup_board.specs.Sound.{IsSound, Since}
+use Rattle.tup_board.specs.Sound.{IsSound, IsTrueNow}
 use Rattle.tup_schedule.specs.Turn.{IsFirstReady}
 use Rattle.tup_schedule.proofs.Courses.{end_more, run_more}
 use Rattle.tup_schedule.proofs.Going.{bad_ended}
@@ -126,9 +125,9 @@ module _ {S R : Type 0} (site : Site S) (runner : Runner R) (board : BoardState 
   pending_on path pending = (pending.0, pending_is pending.0 ∙ pending.1, pending.2)
 
   -- a cause that was true is
-  pub cause_on : (before count : ℕ) (tells : Bool) (world : World) (Left : World → Type 0) (cause : Cause) → IsTrueCause board before count tells world Left cause → IsTrueCause next_board before count tells world Left cause
-  cause_on before count tells world Left causes.Site it = it
-  cause_on before count tells world Left (causes.TooLarge bytes) it = (
+  pub cause_on : (cause : Cause) → IsTrueNow site runner board cause → IsTrueNow site runner next_board cause
+  cause_on causes.Site it = it
+  cause_on (causes.TooLarge bytes) it = (
     it.0,
     λ told. let large = it.1 told in record {
       path = large.path;
@@ -138,7 +137,7 @@ module _ {S R : Type 0} (site : Site S) (runner : Runner R) (board : BoardState 
       stands = λ pending. large.stands (pending_back large.path pending);
     },
   )
-  cause_on before count tells world Left causes.Full it = λ told. let full = it told in (
+  cause_on causes.Full it = λ told. let full = it told in (
     full.0,
     full.1,
     record {
@@ -154,14 +153,13 @@ module _ {S R : Type 0} (site : Site S) (runner : Runner R) (board : BoardState 
       full = full.2.full;
     },
   )
-  cause_on before count tells world Left causes.Bad it = it
-  cause_on before count tells world Left causes.Run it = it
-  cause_on before count tells world Left causes.Memory it = it
+  cause_on causes.Bad it = it
+  cause_on causes.Run it = it
+  cause_on causes.Memory it = it
 
   pub sound_more : IsSound site runner board → IsEnabled (plan_of board) (state board) event
       → (IsTrue site.tells → IsTrue runner.tells → IsHonestEvent runner.next (site.known board.site) (plan_of board) (state board) event)
-      → ((cause : Cause) → (state next_board).stopped ≡ Some cause
-      → IsTrueCause next_board (site.faults board.opening.site) (site.faults board.site) site.tells (site.world board.site) (Since site board) cause)
+      → ((cause : Cause) → (state next_board).stopped ≡ Some cause → IsTrueNow site runner next_board cause)
       → IsSound site runner next_board
   sound_more sound enabled honest cause = record {
     opening = record { fresh = sound.opening.fresh; stands = sound.opening.stands; seen = sound.opening.seen; plan = sound.opening.plan; apart = sound.opening.apart };
@@ -188,9 +186,9 @@ module _ {S R : Type 0} (site : Site S) (runner : Runner R) (board : BoardState 
 
   -- where the event doesn't stop
   pub cause_stays : IsSound site runner board → (after (plan_of board) (state board) event).stopped ≡ (state board).stopped → (cause : Cause) → (state next_board).stopped ≡ Some cause
-      → IsTrueCause next_board (site.faults board.opening.site) (site.faults board.site) site.tells (site.world board.site) (Since site board) cause
+      → IsTrueNow site runner next_board cause
   cause_stays sound same cause stopped =
-      cause_on (site.faults board.opening.site) (site.faults board.site) site.tells (site.world board.site) (Since site board) cause
+      cause_on cause
       (sound.cause cause (sym same ∙ sym (ap (λ (s : State). s.stopped) now_is) ∙ stopped))
 
 -- ---- which events are so
@@ -229,7 +227,7 @@ module _ {S R : Type 0} (site : Site S) (runner : Runner R) (board : BoardState 
       sound_more site runner board (Claim seat rule) quiet sound (within, free, first.ready) (λ told means. tt) (cause_stays site runner board (Claim seat rule) quiet sound refl)
 
   pub sound_stop : (seat : ℕ) (cause : Cause) → seat < 16 → (cause ≡ Bad → ⊥)
-      → IsTrueCause (with_history board (board.history ++ Stop seat cause ∷ [])) (site.faults board.opening.site) (site.faults board.site) site.tells (site.world board.site) (Since site board) cause
+      → IsTrueNow site runner (with_history board (board.history ++ Stop seat cause ∷ [])) cause
       → IsSound site runner (with_history board (board.history ++ Stop seat cause ∷ []))
   sound_stop seat cause within other holds =
       sound_more site runner board (Stop seat cause) (stop_quiet (plan_of board) (state board) seat cause) sound (within, other) (λ told means. tt) (λ c stopped. first_of (state board).stopped refl c (sym (ap (λ (s : State). s.stopped) last) ∙ stopped))
@@ -238,10 +236,10 @@ module _ {S R : Type 0} (site : Site S) (runner : Runner R) (board : BoardState 
       last = end_more (plan_of board) (start board) board.history (Stop seat cause)
 
       TrueNow : Cause → Type 0
-      TrueNow c = IsTrueCause (with_history board (board.history ++ Stop seat cause ∷ [])) (site.faults board.opening.site) (site.faults board.site) site.tells (site.world board.site) (Since site board) c
+      TrueNow c = IsTrueNow site runner (with_history board (board.history ++ Stop seat cause ∷ [])) c
 
       first_of : (was : Option Cause) → (state board).stopped ≡ was → (c : Cause) → Some (unwrap_or (state board).stopped cause) ≡ Some c → TrueNow c
       first_of None is c stopped = subst TrueNow (sym (ap (λ (o : Option Cause). unwrap_or o cause) is) ∙ same_Some _ _ stopped) holds
       first_of (Some earlier) is c stopped =
           subst TrueNow (sym (ap (λ (o : Option Cause). unwrap_or o cause) is) ∙ same_Some _ _ stopped)
-          (cause_on site runner board (Stop seat cause) (stop_quiet (plan_of board) (state board) seat cause) (site.faults board.opening.site) (site.faults board.site) site.tells (site.world board.site) (Since site board) earlier (sound.cause earlier is))
+          (cause_on site runner board (Stop seat cause) (stop_quiet (plan_of board) (state board) seat cause) earlier (sound.cause earlier is))

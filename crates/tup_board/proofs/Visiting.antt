@@ -57,7 +57,7 @@ module _ {S R : Type 0} (site : Site S) (runner : Runner R) (b : BoardState S) (
       → OnlyLarge (let refused : Result (Option Content) BoardFault = Err fault in refused)
       → (IsTrue site.tells → NamesLength (site.world b.site).tree path (let refused : Result (Option Content) BoardFault = Err fault in refused))
       → CountsFaults (site.faults b.site) (site.faults visited) None (let refused : Result (Option Content) BoardFault = Err fault in refused)
-      → IsTrueFault site (record b { site = visited }) seat fault
+      → IsTrueFault site runner (record b { site = visited }) seat fault
   visit_true visited ByVisit other same large length_is counts =
       ⊎_elim (λ rose. rose_since (site.faults b.opening.site) (site.faults b.site) (site.faults visited) sound.counted rose) (λ lost. absurd (none_lost lost)) (counts.site refl)
   visit_true visited (TooLarge bytes) other same large length_is counts = (

@@ -19,10 +19,9 @@ use Rattle.tup_core.specs.declared.event.Cause.{Cause}
 use Rattle.tup_core.specs.declared.event.Cause.TheVariants as causes
 use Rattle.tup_core.specs.Honest.{IsHonest, EndsHonestly}
 use Rattle.tup_board.specs.Board.{BoardState, plan_of, start}
-use Rattle.tup_board.specs.Cause.{IsTrueCause}
 use Rattle.tup_board.specs.Come.{HasComeTo}
 use Rattle.tup_board.specs.Images.{IsImageOver, StandsUnmade}
-use Rattle.tup_board.specs.Sound.{IsSound, Since}
+use Rattle.tup_board.specs.Sound.{IsSound, IsTrueNow, Since}
 
 -- a count that rose has risen over an earlier one, and goes on so
 pub rose_since : (first before now : ℕ) → first ≤ before → Rose before now → Rose first now
@@ -63,8 +62,7 @@ module _ {S R : Type 0} (site : Site S) (runner : Runner R) (b : BoardState S) (
   now_before told w left =
       ⊎_elim (λ was. was) (λ more. absurd more.2) ((on told).since (site.moment b.site) w (omega arith) (earlier (site.moment b.site) (site.moment new) w told (on told).later left))
 
-  cause_read : (cause : Cause) → IsTrueCause b (site.faults b.opening.site) (site.faults b.site) site.tells (site.world b.site) (Since site b) cause
-      → IsTrueCause read (site.faults b.opening.site) (site.faults new) site.tells (site.world new) (Since site read) cause
+  cause_read : (cause : Cause) → IsTrueNow site runner b cause → IsTrueNow site runner read cause
   cause_read causes.Site it = rose it
   cause_read (causes.TooLarge bytes) it = (
     it.0,
@@ -89,7 +87,9 @@ module _ {S R : Type 0} (site : Site S) (runner : Runner R) (b : BoardState S) (
       run = full.2.run;
       whole = full.2.whole;
       kept = full.2.kept;
-      full = full.2.full;
+      full = ⊎_elim inl
+          (λ end. inr (end.0, λ both. subst (λ (k : List Content). EndsHonestly runner.next k full.2.kept.rule full.2.kept.running None Good full.2.run.writes) (sym (known both.0)) (end.1 both)))
+          full.2.full;
     },
   )
   cause_read causes.Bad it = it

@@ -67,6 +67,12 @@ pub record WasToHappen {S R : Type 0} (site : Site S) (runner : Runner R) (board
 abbrev pub IsImage : {S : Type 0} → Site S → BoardState S → World → Type 0
 IsImage site board w = (v : World) × Before site board v × (g : GraphState) × IsImageOver board v w g
 
+-- a cause is true of a board on whose site runners work whose commands mean this
+abbrev pub IsTrueNow : {S R : Type 0} → Site S → Runner R → BoardState S → Cause → Type 0
+IsTrueNow site runner board cause =
+    IsTrueCause board (site.faults board.opening.site) (site.faults board.site) site.tells (site.world board.site) (Since site board)
+    (IsTrue site.tells × IsTrue runner.tells) (EndsHonestly runner.next (site.known board.site)) cause
+
 -- what holds of a board at every moment
 pub record IsSound {S R : Type 0} (site : Site S) (runner : Runner R) (board : BoardState S) : Type 0 where
   pub opening : IsOpening site board
@@ -88,16 +94,16 @@ pub record IsSound {S R : Type 0} (site : Site S) (runner : Runner R) (board : B
   pub since : IsTrue site.tells → (t : ℕ) (w : World) → t ≤ site.moment board.opening.site → site.left_since board.site t w
       → site.left_since board.opening.site t w ⊎ IsImage site board w
   -- the first cause of a stop is true
-  pub cause : (cause : Cause) → (state board).stopped ≡ Some cause
-      → IsTrueCause board (site.faults board.opening.site) (site.faults board.site) site.tells (site.world board.site) (Since site board) cause
+  pub cause : (cause : Cause) → (state board).stopped ≡ Some cause → IsTrueNow site runner board cause
   -- the site's moment, its count of faults, and the contents that it knows only grow
   pub counted : site.faults board.opening.site ≤ site.faults board.site
   pub later : IsTrue site.tells → site.moment board.opening.site ≤ site.moment board.site
   pub known : IsTrue site.tells → Keeps (site.known board.opening.site) (site.known board.site)
 
 -- a refusal at a seat is true of a board, as the cause of a stop
-abbrev pub IsTrueFault : {S : Type 0} → Site S → BoardState S → ℕ → BoardFault → Type 0
-IsTrueFault site it seat ByVisit = Rose (site.faults it.opening.site) (site.faults it.site)
-IsTrueFault site it seat (TooLarge bytes) = (most_bytes < bytes) × (IsTrue site.tells → HasLargeFile it (site.world it.site) bytes)
-IsTrueFault site it seat Full = IsTrue site.tells → (w : World) × Since site it w × HasNoRoom (with_history it (it.history ++ stops_by seat Full)) w.store
-IsTrueFault site it seat Memory = Unit {0}
+abbrev pub IsTrueFault : {S R : Type 0} → Site S → Runner R → BoardState S → ℕ → BoardFault → Type 0
+IsTrueFault site runner it seat ByVisit = Rose (site.faults it.opening.site) (site.faults it.site)
+IsTrueFault site runner it seat (TooLarge bytes) = (most_bytes < bytes) × (IsTrue site.tells → HasLargeFile it (site.world it.site) bytes)
+IsTrueFault site runner it seat Full = IsTrue site.tells → (w : World) × Since site it w
+    × HasNoRoom (with_history it (it.history ++ stops_by seat Full)) w.store (IsTrue site.tells × IsTrue runner.tells) (EndsHonestly runner.next (site.known it.site))
+IsTrueFault site runner it seat Memory = Unit {0}

@@ -34,6 +34,8 @@ pub(crate) trait Desk {
 
     type Site: Site;
 
+    type Runner: Runner;
+
     /// The board.
     ghost board: { Self → BoardState Self.Site };
 
@@ -170,7 +172,8 @@ pub(crate) trait Desk {
     fn fail(&mut self, plan: &Plan, seat: u32, fault: BoardFault) -> BoardFault
         requires plan { plan.now ≡ plan_of (board self.old) }
         requires runs { RunsRule (course_of (board self.old)) seat }
-        requires true_cause { IsTrueFault Self.Site.Site (board self.old) seat fault }
+        requires true_cause { IsTrueFault Self.Site.Site Self.Runner.Runner
+            (board self.old) seat fault }
         ensures same { result ≡ fault }
         ensures adds { board self.new ≡ with_history (board self.old)
             ((board self.old).history ++ stops_by seat fault) };
@@ -178,6 +181,8 @@ pub(crate) trait Desk {
 
 impl<S: Site, R: Runner> Desk for Board<S, R> {
     type Site = S;
+
+    type Runner = R;
 
     ghost board = { λ board. board };
 

@@ -1,53 +1,45 @@
 -- A board that is stopped because the store is full has no room there for what the run of a rule commits.
-use Rattle.std.proofs.Common.{◌≡◌, inl, inr, ◌≤◌, ℕ, suc, true, List, [], ◌∷◌, length, map, Option, Some, IsTrue, refl, sym, ap, subst, ◌∙◌}
+use Rattle.std.proofs.Common.{◌≡◌, inl, inr, ℕ, true, List, [], ◌∷◌, map, None, Some, IsTrue, refl, sym, ap, subst, ◌∙◌}
 use Rattle.std.specs.Prelude.{slice_get}
-use Rattle.tup_path.specs.Name.{Names}
-use Rattle.tup_stamp.specs.declared.Stamp.{Stamp}
 use Rattle.tup_site.specs.World.{World}
 use Rattle.tup_site.specs.declared.site.Site.{Ghosts as Site}
 use Rattle.tup_rule.specs.Rule.{name_of}
 use Rattle.tup_rule.specs.declared.rule.Rule.{Rule}
 use Rattle.tup_rule.specs.declared.rule.RuleName.{RuleName}
-use Rattle.tup_runner.specs.Next.{Next}
 use Rattle.tup_runner.specs.declared.runner.Runner.{Ghosts as Runner}
+use Rattle.tup_access.specs.declared.verdict.Verdict.TheVariants.{Good}
 use Rattle.tup_table.specs.Entries.{Standing}
 use Rattle.tup_table.proofs.Appends.{rests_store}
 use Rattle.tup_graph.specs.Graph.{GraphState}
 use Rattle.tup_graph.specs.Kept.{IsGraphIn, IsRuleAt}
 use Rattle.tup_graph.specs.Opening.{IsGraphOf}
+use Rattle.tup_graph.specs.Records.{IsTrueRun}
 use Rattle.tup_graph.specs.Transactions.{begin_edits, finish_edits}
 use Rattle.tup_graph.specs.declared.edit.Edit.{Edit}
 use Rattle.tup_stored_graph.specs.Held.{Held}
 use Rattle.tup_stored_graph.specs.Transaction.{IsFull}
+use Rattle.tup_core.specs.Honest.{EndsHonestly}
 use Rattle.tup_core.specs.Run.{IsRun, end_of}
 use Rattle.tup_core.specs.Step.{State, after}
 use Rattle.tup_core.specs.declared.event.Cause.TheVariants.{Full}
 use Rattle.tup_core.specs.declared.event.CoreEvent.{CoreEvent}
 use Rattle.tup_core.specs.declared.event.CoreEvent.TheVariants.{Stop}
 use Rattle.tup_core.specs.declared.plan.Plan.{Plan}
-use Rattle.tup_core.proofs.Counted.{all_counted}
 use Rattle.tup_core.proofs.Orderly.{claimed_stays}
 use Rattle.tup_schedule.proofs.Courses.{end_both}
 use Rattle.tup_board.specs.Board.{BoardState, course_of, plan_of, start, state}
 use Rattle.tup_board.specs.Calls.{commands}
 use Rattle.tup_board.specs.Cause.{HasNoRoom, StandsForBytes}
-use Rattle.tup_board.specs.Ends.{AreRecorded}
 use Rattle.tup_board.specs.Sound.{IsSound, Since}
 use Rattle.tup_board.proofs.Seated.{orderly}
 use Rattle.tup_law_site.proofs.Stores.{in_bytes, one_in_bytes}
+use Rattle.tup_law_board.proofs.Honestly.{record_true}
 use Rattle.tup_law_board.proofs.Runs.{run_behind, run_front}
 use Rattle.tup_promise.specs.Kept.{AsksFor}
 use Rattle.tup_promise.specs.Prepared.{IsPrepared}
 use Rattle.tup_promise.specs.Ran.{command_of}
-use Rattle.tup_ends.specs.Room.{AreOfRun, IsRunOf, LacksRoomToRun}
+use Rattle.tup_ends.specs.Room.{AreOfRun, LacksRoomToRun}
 use Rattle.tup_ends.proofs.Due.{among_ran, asked}
-
--- as much is recorded as was asked
-as_many : (dir : Names) (asks : List (List ℕ × Option Stamp)) (noted : List (Names × Option Stamp)) → AreRecorded dir asks noted → length noted ≡ length asks
-as_many dir [] [] are = refl
-as_many dir (ask ∷ asks) (one ∷ noted) (named, value, are) = ap suc (as_many dir asks noted are)
-as_many dir [] (one ∷ noted) are = absurd are
-as_many dir (ask ∷ asks) [] are = absurd are
 
 -- what was claimed stays so
 claimed_still : (plan : Plan) (events : List CoreEvent) (at : State) (number : ℕ) → IsRun plan at events → at.claimed number ≡ true → (end_of plan at events).claimed number ≡ true
@@ -62,8 +54,9 @@ graph_in graph bytes stands = record {
   graph = subst (λ (entries : Standing). IsGraphOf entries graph.nodes) stands.entries stands.nodes;
 }
 
-module _ {S R : Type 0} (site : Site S) (runner : Runner R) (b : BoardState S) (sound : IsSound site runner b) (tells : IsTrue site.tells) (ran : List RuleName) (same : map command_of ran ≡ commands (plan_of b) b.history)
-    (next : Next) (first : World) (since : ℕ) (prepared : IsPrepared site next first since b.opening.graph b.opening.site) (w : World) (left : Since site b w) (none : HasNoRoom b w.store) where
+module _ {S R : Type 0} (site : Site S) (runner : Runner R) (b : BoardState S) (sound : IsSound site runner b) (tells : IsTrue site.tells) (means : IsTrue runner.tells) (ran : List RuleName) (same : map command_of ran ≡ commands (plan_of b) b.history)
+    (first : World) (since : ℕ) (prepared : IsPrepared site runner.next first since b.opening.graph b.opening.site) (w : World) (left : Since site b w)
+    (none : HasNoRoom b w.store (IsTrue site.tells × IsTrue runner.tells) (EndsHonestly runner.next (site.known b.site))) where
   abbrev plan : Plan
   plan = plan_of b
 
@@ -108,29 +101,26 @@ module _ {S R : Type 0} (site : Site S) (runner : Runner R) (b : BoardState S) (
   in_graph : IsRuleAt nodes none.number rule
   in_graph = ap (λ (rules : List Rule). slice_get rules none.number) rules_are ∙ here
 
-  is_run : IsRunOf rule none.run
-  is_run = record {
-    few = subst (λ (n : ℕ). n ≤ 4095) (sym (as_many rule.dir none.kept.running.asks none.run.asks none.kept.asks))
-        ((all_counted plan (course_of b).files none.before run_before).each none.seat none.kept.running none.kept.runs.here).few;
-    writes = none.kept.writes;
-  }
+  -- its command comes to that run, where it ended so
+  comes_to : EndsHonestly runner.next (site.known b.site) rule none.kept.running None Good none.run.writes → IsTrueRun runner.next (site.known b.site) rule none.run
+  comes_to = record_true plan (course_of b).files none.before sound.opening.apart.one_maker run_before runner.next (site.known b.site) none.seat none.number none.run none.kept
 
-  pub lacks_room : LacksRoomToRun first w ran
+  pub lacks_room : LacksRoomToRun runner.next (site.known b.site) first w ran
   lacks_room = elim none.full [
     | inl begins ↦ lacks (begin_edits nodes none.number) (inl refl) begins
-    | inr ends ↦ lacks (finish_edits nodes none.number none.run) (inr (none.run, is_run, refl)) ends
+    | inr ends ↦ lacks (finish_edits nodes none.number none.run) (inr (none.run, comes_to (ends.1 (tells, means)), refl)) ends.0
   ]
     where
-      lacks : (edits : List Edit) → AreOfRun nodes none.number rule edits → IsFull none.graph edits → LacksRoomToRun first w ran
+      lacks : (edits : List Edit) → AreOfRun runner.next (site.known b.site) nodes none.number rule edits → IsFull none.graph edits → LacksRoomToRun runner.next (site.known b.site) first w ran
       lacks edits of_run full = record {
         graph = none.graph;
         stands = none.stands;
-        asked = subst (AsksFor first) (sym rules_are) (asked site runner b sound ran same next first since prepared);
+        asked = subst (AsksFor first) (sym rules_are) (asked site runner b sound ran same runner.next first since prepared);
         number = none.number;
         rule = rule;
         here = in_graph;
         was_run = among_ran site runner b sound ran same none.number (name_of rule) claimed (rule, here, refl);
         edits = edits;
-        next = of_run;
+        of_run = of_run;
         full = full;
       }

@@ -94,7 +94,7 @@ pub record Updates (next : Next) (many : ℕ) (wanted : Wanted) (old new : MemSi
   pub needed : ForUpdate wanted status (OnlyWhatIsNeeded next (goes_on wanted) (used wanted many) (world_in old) (world_in new) ran)
   pub tells : IsUpdate wanted → HasTrueLog next (used wanted many) (goes_on wanted) (world_in old) (world_in new) status ran
   pub blamed : ForUpdate wanted status (IsToBlame next (world_in old) (world_in new) ran)
-  pub full : ForUpdate wanted status (HasFullCause memory.ghosts old new ran)
+  pub full : ForUpdate wanted status (HasFullCause memory.ghosts next old new ran)
   pub settled : ForUpdate wanted status (OnceDone (IsDurable (left_since new (moment_of new)) (world_in new)))
   pub states : BringsUp wanted → States next (world_in old) (world_in new)
   pub users : HasUsersFile (world_in old) → ForUpdate wanted status (IsHeldUp memory.ghosts old new ran)

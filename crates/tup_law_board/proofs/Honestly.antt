@@ -1,5 +1,6 @@
 -- The record of a command that did what its runner means is true.
-use Rattle.std.proofs.Common.{◌≡◌, ℕ, zero, suc, ◌≤◌, true, List, [], ◌∷◌, ◌++◌, length, Option, None, Some, Ok, Contains, refl, sym, ap, subst, ◌∙◌, append_assoc, arith}
+use Rattle.std.proofs.Common.{◌≡◌, ℕ, zero, suc, ◌≤◌, true, List, [], ◌∷◌, ◌++◌, length, Option, None, Some, Ok, All, Contains, refl, sym, ap, subst, ◌∙◌, append_assoc, arith}
+use Rattle.std.proofs.lemmas.List.Elements.{All-contains}
 use Rattle.tup_path.specs.Name.{Names, Content}
 use Rattle.tup_path.specs.Resolve.{resolve}
 use Rattle.tup_stamp.specs.declared.Stamp.{Stamp}
@@ -14,9 +15,16 @@ use Rattle.tup_access.specs.declared.verdict.Verdict.TheVariants.{Good}
 use Rattle.tup_record.specs.declared.run.RunRecord.{RunRecord}
 use Rattle.tup_graph.specs.Records.{AreRecorded, GoesOnAsking, IsStampOf, IsTrueRun}
 use Rattle.tup_core.specs.Honest.{AreAnswered, EndsHonestly, StandsFor}
+use Rattle.tup_core.specs.Run.{IsRun, end_of}
+use Rattle.tup_core.specs.Sound.{HasOneMaker, Stands}
+use Rattle.tup_core.specs.Step.{State, opening, told}
+use Rattle.tup_core.specs.declared.event.CoreEvent.{CoreEvent}
+use Rattle.tup_core.specs.declared.plan.Plan.{Plan}
 use Rattle.tup_core.specs.declared.running.Running.{Running}
+use Rattle.tup_core.proofs.Counted.{all_counted}
+use Rattle.tup_core.proofs.Standing.{asks_stand}
 use Rattle.tup_core.proofs.Verdicts.{as_many}
-use Rattle.tup_board.specs.Ends.{AreRecorded as AreNoted}
+use Rattle.tup_board.specs.Ends.{AreRecorded as AreNoted, IsRecordOf}
 
 -- a recorded ask is one of those that the command made
 pub noted_ask : (dir : Names) (asks : List (List ℕ × Option Stamp)) (list : List (Names × Option Stamp)) (noted : Names × Option Stamp) → AreNoted dir asks list → Contains list noted
@@ -74,3 +82,25 @@ module _ (next : Next) (known : List Content) (rule : Rule) where
     files = files;
     known_files = contents;
   }
+
+-- ---- so is the record of one that a seat runs, in a run of the core
+module _ (plan : Plan) (files : List (Names × Stamp)) (events : List CoreEvent) (one : HasOneMaker plan) (run_to : IsRun plan (opening plan files) events) (next : Next) (known : List Content) (seat number : ℕ) (run : RunRecord)
+    (kept : IsRecordOf plan (end_of plan (opening plan files) events) seat number run) (ends : EndsHonestly next known kept.rule kept.running None Good run.writes) where
+  abbrev now : State
+  now = end_of plan (opening plan files) events
+
+  asks_are : All (Stands plan now kept.rule) kept.running.asks
+  asks_are = asks_stand plan files events one run_to seat kept.running kept.rule kept.runs
+
+  told_own : (path : Names) → writes kept.rule path ≡ true → told kept.rule now path ≡ None
+  told_own path own = rw own refl
+
+  own_absent : (ask : List ℕ × Option Stamp) (path : Names) → Contains kept.running.asks ask → resolve kept.rule.dir ask.0 ≡ Ok path → writes kept.rule path ≡ true → ask.1 ≡ None
+  own_absent ask path there named own =
+      let stand = All-contains (Stands plan now kept.rule) kept.running.asks ask asks_are there in
+      let both : Ok stand.path ≡ Ok path = sym stand.named ∙ named in
+      let same : stand.path ≡ path = cc in
+      stand.same ∙ ap (told kept.rule now) same ∙ told_own path own
+
+  pub record_true : IsTrueRun next known kept.rule run
+  record_true = honest_run next known kept.rule kept.running run ((all_counted plan files events run_to).each seat kept.running kept.runs.here).few ends kept.asks own_absent

@@ -32,7 +32,6 @@ use Rattle.std.proofs.lemmas.Cmp.{tied_itself}
 use Rattle.std.specs.List.{IsDistinct}
 use Rattle.std.proofs.lemmas.List.Elements.{All-contains, All-contains_itself}
 use Rattle.tup_path.specs.Order.{same_path, by_names}
-use Rattle.tup_path.specs.Resolve.{resolve}
 use Rattle.tup_rule.specs.Producer.{DeclaredProducer}
 use Rattle.tup_rule.specs.declared.question.Noted.{Noted}
 use Rattle.tup_rule.specs.declared.question.Question.{Question}
@@ -45,13 +44,12 @@ use Rattle.tup_core.specs.Honest.{EndsHonestly, IsHonest}
 use Rattle.tup_core.specs.Sound.{HasOneMaker, Stands}
 use Rattle.tup_core.proofs.Orderly.{IsOrderly}
 use Rattle.tup_core.proofs.Standing.{asks_stand}
-use Rattle.tup_core.proofs.Counted.{all_counted}
 use Rattle.tup_rule_outputs.specs.Lost.{Lost}
 use Rattle.tup_schedule.proofs.Courses.{end_both}
 use Rattle.tup_board.proofs.Openings.{stamps_of_entries}
 use Rattle.tup_law_graph.proofs.Edited.{kept_more}
 use Rattle.tup_law_board.specs.Kept.{AskStands, CameTo, HoldsTogether}
-use Rattle.tup_law_board.proofs.Honestly.{honest_run, noted_ask}
+use Rattle.tup_law_board.proofs.Honestly.{noted_ask, record_true}
 use Rattle.tup_board.specs.Board.{BoardState, course_of, plan_of, first_graph, start, state}
 use Rattle.tup_board.specs.Come.{HasCome, HasOf, WasToKeep, HasComeTo}
 use Rattle.tup_board.specs.Ends.{HasEnded, IsRecordOf, CouldEnd}
@@ -317,9 +315,6 @@ module _ {S R : Type 0} (site : Site S) (runner : Runner R) (b : BoardState S) (
       told_else : (path : Names) → writes c.kept.rule path ≡ false → told c.kept.rule mid path ≡ mid.files path
       told_else path other = rw other refl
 
-      told_own : (path : Names) → writes c.kept.rule path ≡ true → told c.kept.rule mid path ≡ None
-      told_own path own = rw own refl
-
       -- what it asked, own outputs aside, it might read, and it was told the stamp that stands to this day; its makers wait no more
       asked_stands : (path : Names) (given : Option Stamp) → Contains run.asks (path, given) → writes rule path ≡ false → AskStands b rule path given
       asked_stands path given there other =
@@ -341,17 +336,10 @@ module _ {S R : Type 0} (site : Site S) (runner : Runner R) (b : BoardState S) (
           not_pending m makes free true waits = absurd (free (m, waits, makes))
           not_pending m makes free false waits = refl
 
-      own_absent : (ask : List ℕ × Option Stamp) (path : Names) → Contains c.kept.running.asks ask → resolve c.kept.rule.dir ask.0 ≡ Ok path → writes c.kept.rule path ≡ true → ask.1 ≡ None
-      own_absent ask path there named own =
-          let stand = All-contains (Stands plan mid c.kept.rule) c.kept.running.asks ask asks_were there in
-          let both : Ok stand.path ≡ Ok path = sym stand.named ∙ named in
-          let same : stand.path ≡ path = cc in
-          stand.same ∙ ap (told c.kept.rule mid) same ∙ told_own path own
-
       true_run : IsTrueRun next more rule run
       true_run =
           subst (λ (r : Rule). IsTrueRun next more r run) rule_is
-          (honest_run next more c.kept.rule c.kept.running run ((all_counted plan (course_of b).files c.front run_to).each c.seat c.kept.running c.kept.runs.here).few c.ends c.kept.asks own_absent)
+          (record_true plan (course_of b).files c.front one run_to next more c.seat number run c.kept c.ends)
 
       names : map (λ (file : Names × Stamp). file.0) run.writes ≡ rule.outputs
       names = c.kept.writes ∙ ap (λ (r : Rule). r.outputs) rule_is

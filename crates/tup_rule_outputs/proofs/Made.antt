@@ -285,6 +285,7 @@ module _ {S : Type 0} (site : Site S) (number : ℕ) (run : RunRecord) (files : 
             full = λ e. inr (
               subst (λ (h : Held). IsFull h (finish_edits h.nodes number run)) mid_is (keep.full e),
               ap (λ (it : Ground S). it.graph) (keep.err board.Full e (none_full (Some run) (finish_edits mid.graph.nodes number run) (finished mid.graph.nodes number run) there result end keep e)) ∙ mid_is,
+              λ tells. subst (HoldsFiles files) (sym (keep.tree tells)) (holds tells),
             );
             room = λ d e full. ⊎_elim (begin.room done refl) (λ more. keep.room d e (subst (λ (h : Held). IsFull h (finish_edits h.nodes number run)) (sym mid_is) more)) full;
             small = keep.small;

@@ -131,11 +131,11 @@ LacksRoomFor graph number run =
     IsFull graph (begin_edits graph.nodes number)
     ⊎ IsFull (after_begin graph number) (finish_edits (begun graph.nodes number) number run)
 
--- which of the two had no room: the graph is as it was, or the run has begun
-abbrev pub WasFull : Held → ℕ → RunRecord → Held → Type 0
-WasFull graph number run new =
+-- which of the two had no room: the graph is as it was, or the run has begun, and its files stand
+abbrev pub WasFull : Held → ℕ → RunRecord → Held → Type 0 → Type 0
+WasFull graph number run new stand =
     (IsFull graph (begin_edits graph.nodes number) × (new ≡ graph))
-    ⊎ (IsFull (after_begin graph number) (finish_edits (begun graph.nodes number) number run) × (new ≡ after_begin graph number))
+    ⊎ (IsFull (after_begin graph number) (finish_edits (begun graph.nodes number) number run) × (new ≡ after_begin graph number) × stand)
 
 -- a commit of this rule was lost, by which the call is refused
 pub record Loses {T : Type 0} (number : ℕ) (run : RunRecord) (result : Result T BoardFault) (commit : Lost) : Type 0 where
@@ -152,7 +152,7 @@ pub record MakesFiles {S : Type 0} (site : Site S) (number : ℕ) (run : RunReco
   -- else a commit is lost, or all is as it was, or the run began
   pub lost : (commit : Lost) → new.lost ≡ Some commit → Loses number run result commit
   pub err : (fault : BoardFault) → result ≡ Err fault → new.lost ≡ None → (new ≡ old) ⊎ (new.graph ≡ after_begin old.graph number)
-  pub full : result ≡ Err Full → WasFull old.graph number run new.graph
+  pub full : result ≡ Err Full → WasFull old.graph number run new.graph (IsTrue site.tells → HoldsFiles files (site.world new.site).tree)
   pub room : (done : Unit {0}) → result ≡ Ok done → LacksRoomFor old.graph number run → ⊥
   pub small : (bytes : ℕ) → result ≡ Err (TooLarge bytes) → ⊥
   -- what became of the tree and the store, and what a crash may leave meanwhile

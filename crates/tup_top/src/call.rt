@@ -141,9 +141,9 @@ pub fn tup<W: Threads + Wait + Sync, S: Site + Send, R: Runner + Send, T: Report
         → let old = S.world site in let new = S.world result.site in
         ForUpdate (order words.now) result.status (IsToBlame R.next old new result.ran) }
     // Where it is told that the store is full, there is no room in it: as it is left where no command
-    // was run, and else as a crash since the beginning may leave it.
+    // was run, and else as a crash since the beginning may leave it, for what such a command comes to.
     ensures full { KeptHere S.Site.own R.Runner.own site → ForUpdate (order words.now)
-        result.status (HasFullCause S.Site.own site result.site result.ran) }
+        result.status (HasFullCause S.Site.own R.next site result.site result.ran) }
     ensures settled { KeptHere S.Site.own R.Runner.own site
         → ForUpdate (order words.now) result.status (OnceDone (IsSettled S.Site.own result.site)) }
     ensures sources_and_crashes { KeptHere S.Site.own R.Runner.own site

@@ -100,7 +100,8 @@ pub(crate) fn update_by<
         → let old = S.world site in let new = S.world result.site in
         IfCame result.status (IsToBlame R.next old new result.ran) }
     ensures full { KeptHere S.Site.own R.Runner.own site
-        → IfCame result.status (HasFullCause S.Site.own site result.site result.ran) }
+        → IfCame result.status
+        (HasFullCause S.Site.own R.next site result.site result.ran) }
     ensures settled { KeptHere S.Site.own R.Runner.own site
         → IfCame result.status (OnceDone (IsSettled S.Site.own result.site)) }
     ensures sources_and_crashes { KeptHere S.Site.own R.Runner.own site
@@ -211,7 +212,8 @@ pub(crate) fn update<
         → let old = S.world site in let new = S.world result.site in
         IfCame result.status (IsToBlame R.next old new result.ran) }
     ensures full { KeptHere S.Site.own R.Runner.own site
-        → IfCame result.status (HasFullCause S.Site.own site result.site result.ran) }
+        → IfCame result.status
+        (HasFullCause S.Site.own R.next site result.site result.ran) }
     ensures settled { KeptHere S.Site.own R.Runner.own site
         → IfCame result.status (OnceDone (IsSettled S.Site.own result.site)) }
     ensures sources_and_crashes { KeptHere S.Site.own R.Runner.own site

@@ -220,9 +220,9 @@ blames_sources next w now ran (stop.Outside (failed.TooLarge n)) before blames =
 blames_sources next w now ran (stop.Outside failed.Memory) before blames = tt
 
 -- ---- why the store is said to be full
-module _ {S : Type 0} (site : Site S) (old new : S) (ran : List RuleName) where
+module _ {S : Type 0} (site : Site S) (next : Next) (old new : S) (ran : List RuleName) where
   -- once its rules were run
-  pub full_by : (stopped : Option Stop) → (stopped ≡ Some stop.Full → (w : World) × site.left_since new (site.moment old) w × LacksRoomToRun (site.world old) w ran) → HasFullCause site old new ran stopped
+  pub full_by : (stopped : Option Stop) → (stopped ≡ Some stop.Full → (w : World) × site.left_since new (site.moment old) w × LacksRoomToRun next (site.known new) (site.world old) w ran) → HasFullCause site next old new ran stopped
   full_by None full = tt
   full_by (Some stop.NoStore) full = tt
   full_by (Some (stop.BadStore offset)) full = tt
@@ -234,7 +234,7 @@ module _ {S : Type 0} (site : Site S) (old new : S) (ran : List RuleName) where
   full_by (Some (stop.Outside why)) full = tt
 
   -- before any was
-  pub full_before : (by : Stop) → ran ≡ [] → FillsStore (site.world new) by → HasFullCause site old new ran (Some by)
+  pub full_before : (by : Stop) → ran ≡ [] → FillsStore (site.world new) by → HasFullCause site next old new ran (Some by)
   full_before stop.NoStore none fills = tt
   full_before (stop.BadStore offset) none fills = tt
   full_before (stop.Sources fault) none fills = tt

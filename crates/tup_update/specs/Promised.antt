@@ -38,7 +38,7 @@ pub record Promises {S R : Type 0} (site : Site S) (runner : Runner R) (keep_goi
   pub bads : BadEnds runner.next (site.world old) log
   pub first : BlamesFirst (site.world old) log stopped
   pub left : GoodEnds runner.next (site.world old) (site.world new) log
-  pub full : HasFullCause site old new log.ran stopped
+  pub full : HasFullCause site runner.next old new log.ran stopped
   -- the site is kept as it is, and a crash leaves it as it is where nothing stopped it
   pub kept : IsKeptNow site runner.next tupfiles (site.known new) new
   pub settled : stopped ≡ None → IsSettled site new

@@ -106,7 +106,8 @@ pub fn update_site<W: Threads + Wait + Sync, S: Site + Send, R: Runner + Send>(
         → GoodEnds R.next (S.world site) (S.world result.site) result.log }
     // And where it is told that the store is full, there is no room in it.
     ensures full { KeptHere S.Site.own R.Runner.own site
-        → HasFullCause S.Site.own site result.site result.log.ran result.stopped }
+        → HasFullCause S.Site.own R.next site result.site
+        result.log.ran result.stopped }
     ensures kept { KeptHere S.Site.own R.Runner.own site
         → IsKeptNow S.Site.own R.next tupfiles (S.known result.site) result.site }
     ensures settled { KeptHere S.Site.own R.Runner.own site → result.stopped ≡ None

@@ -373,7 +373,7 @@ pub returns-clause-blamed : goal.returns-clause-blamed
 returns-clause-blamed g c = λ _. memory_for_update (order c.args.words.now) (IsToBlame g.R.Runner.next (g.S.Site.world c.args.site) (g.S.Site.world c.args.site) c.new-in-Err-Memory.result) tt
 
 pub returns-clause-full : goal.returns-clause-full
-returns-clause-full g c = λ _. memory_for_update (order c.args.words.now) (HasFullCause g.S.Site c.args.site c.args.site c.new-in-Err-Memory.result) tt
+returns-clause-full g c = λ _. memory_for_update (order c.args.words.now) (HasFullCause g.S.Site g.R.Runner.next c.args.site c.args.site c.new-in-Err-Memory.result) tt
 
 pub returns-clause-settled : goal.returns-clause-settled
 returns-clause-settled g c = λ _. memory_for_update (order c.args.words.now) (OnceDone (IsSettled g.S.Site c.args.site)) (λ done. cc done)

@@ -124,7 +124,7 @@ returns-clause-blamed g c = λ kept.
 pub returns-clause-full : goal.returns-clause-full
 returns-clause-full g c = λ kept.
     let update = c.update_site-site in
-    answered_told (HasFullCause g.S.Site c.args.site update.result.site update.result.log.ran) _ _ _ _ update.result.log update.result.stopped _ _ refl c.tell_all-status.ensures.ends update.ensures.counted_cause.any (update.ensures.full kept) tt
+    answered_told (HasFullCause g.S.Site g.R.Runner.next c.args.site update.result.site update.result.log.ran) _ _ _ _ update.result.log update.result.stopped _ _ refl c.tell_all-status.ensures.ends update.ensures.counted_cause.any (update.ensures.full kept) tt
 
 pub returns-clause-settled : goal.returns-clause-settled
 returns-clause-settled g c = λ kept.

@@ -253,8 +253,8 @@ returns-clause-promised g c = λ old tells means was.
           (λ number rule here reached gone. c.settled_rules_are_made.ensures board first since number rule tells means keeps opened.prepared here reached gone)
           (λ number. c.boards_leave_due.ensures.pending board first since number tells means keeps (graph_read g c) opened.prepared once)
           (λ number. c.boards_leave_due.ensures.before board first since number tells means keeps (graph_read g c) opened.prepared once) c.told.result.log (log_goods g c);
-      full = full_by g.S.Site old board.site ran stopped (λ is.
-          c.full_is_true.ensures board first since ran tells keeps opened.prepared (names_run g c)
+      full = full_by g.S.Site next old board.site ran stopped (λ is.
+          c.full_is_true.ensures board first since ran tells means keeps opened.prepared (names_run g c)
           (stopped_full c.args.plan.now.rules (bads g c) (state board) c.drain_by-done.result.drained stopped c.drain_by-done.ensures.drains (stops_by g c) is));
       kept = c.boards_are_kept.ensures board first since tells means keeps (graph_read g c) opened.prepared once;
       settled = λ none. c.done_is_settled.ensures board first since tells means keeps (graph_read g c) opened.prepared once (all_done g c none);

@@ -111,7 +111,7 @@ returns-in-Err-clause-left g c = λ here.
 
 pub returns-in-Err-clause-full : goal.returns-in-Err-clause-full
 returns-in-Err-clause-full g c = λ here.
-    full_before g.S.Site c.args.site c.prepared.new.site c.prepared.new.log.ran c.in-Err.stop (c.prepared.ensures.none.ran ∙ c.new-log.ensures.ran) (c.in-Err.ensures.full here.tells g.R.Runner.next here.kept)
+    full_before g.S.Site g.R.Runner.next c.args.site c.prepared.new.site c.prepared.new.log.ran c.in-Err.stop (c.prepared.ensures.none.ran ∙ c.new-log.ensures.ran) (c.in-Err.ensures.full here.tells g.R.Runner.next here.kept)
 
 pub returns-in-Err-clause-only_what_is_needed : goal.returns-in-Err-clause-only_what_is_needed
 returns-in-Err-clause-only_what_is_needed g c = λ here. record {
