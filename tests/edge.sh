@@ -157,7 +157,7 @@ done
 
 # A file that is listed and gone before it is read, as an editor's or a compiler's temporary one, is passed over.
 project "$copy" && "$tup" > /dev/null && touch 4913
-strace --quiet=path-resolution -o /dev/null -P ./4913 -e trace=statx -e inject=statx:error=ENOENT:when=2 "$tup" > "$work/told" 2> "$work/said"
+strace --quiet=path-resolution -o /dev/null -P ./4913 -e trace=openat,statx -e inject=openat:error=ENOENT -e inject=statx:error=ENOENT:when=2+ "$tup" > "$work/told" 2> "$work/said"
 same "a file that is gone before it is read" "$?: $(cat "$work/told" "$work/said")" '0: done: 0 read, 0 run, 0 removed'
 
 # A file system that doesn't tell case apart shows a file under a name that its folder doesn't list.

@@ -54,6 +54,10 @@ IsBarredAbove places refused = Any (λ place. IsBarred operation.Look place refu
 abbrev pub IsUnlisted : List ℕ → Refused → Type 0
 IsUnlisted root refused = (names : Names) × (IsNamed operation.List (place_of root names) refused ⊎ IsNamed operation.Look (place_of root names) refused)
 
+-- a file that was listed isn't opened, or isn't looked at once it is open
+abbrev pub IsUnopened : List ℕ → Refused → Type 0
+IsUnopened place refused = IsBarred operation.Open place refused ⊎ IsNamed operation.Look place refused
+
 -- a place wasn't made durable: what is there wasn't opened, or its sync failed
 abbrev pub IsUnsynced : List ℕ → Refused → Type 0
 IsUnsynced place refused = IsBarred operation.Open place refused ⊎ IsNamed operation.Sync place refused

@@ -18,9 +18,6 @@ pub enum Syncs {
     Skipped,
 }
 
-/// How many bytes the names of most paths take, with a slash before each.
-const ROOM: usize = 64;
-
 /// The folder below which all lies, and the way to it.
 #[derive(Drop)]
 pub struct Disk<R: Files<File = File> + Clone + Drop> {
@@ -145,7 +142,7 @@ impl<R: Files<File = File> + Clone + Drop> Disk<R> {
 pub fn place_below(alloc: Global, root: &str, names: &[Text]) -> Result<String, AllocError>
     ensures { IfOk result (λ place. string_bytes place ≡ place_of root.now names.now) }
 {
-    let mut place = with_room(alloc, root)?;
+    let mut place = with_room(alloc, root, names)?;
     for name in names {
         place.push('/')?;
         place.push_str(name.as_str())?;
@@ -153,11 +150,20 @@ pub fn place_below(alloc: Global, root: &str, names: &[Text]) -> Result<String, 
     Ok(place)
 }
 
-/// The place of a folder, with room for the names of most paths, so that it needn't grow with each of them.
-fn with_room(alloc: Global, root: &str) -> Result<String, AllocError>
+/// The place of a folder, with room for these names behind it, so that it needn't grow with each of them.
+fn with_room(alloc: Global, root: &str, names: &[Text]) -> Result<String, AllocError>
     ensures { IfOk result (λ place. string_bytes place ≡ root.now) }
 {
-    let mut place = String::with_capacity(alloc, root.len().saturating_add(ROOM))?;
+    let mut place = String::with_capacity(alloc, root.len().saturating_add(room_of(names)))?;
     place.push_str(root)?;
     Ok(place)
+}
+
+/// How many bytes these names take, with a slash before each.
+fn room_of(names: &[Text]) -> usize {
+    let mut room = 0usize;
+    for name in names {
+        room = room.saturating_add(name.as_str().len()).saturating_add(1);
+    }
+    room
 }

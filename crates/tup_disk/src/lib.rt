@@ -14,5 +14,6 @@ mod touched;
 
 pub use disk::{Disk, Syncs, place_below};
 pub use failure::{Failure, Operation, Refused};
-pub use standing::{Seen, Standing, is_absence};
+pub use listing::{Listed, Listing};
+pub use standing::{Inode, Seen, Standing, is_absence};
 pub use touched::Touched;

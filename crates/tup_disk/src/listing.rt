@@ -8,7 +8,7 @@ ghost use Rattle.tup_path.specs.Order.{by_names};
 
 use crate::disk::Disk;
 use crate::failure::{Operation, Refused};
-use crate::standing::{Seen, Standing};
+use crate::standing::{Inode, Seen, Standing};
 use std::alloc::Global;
 use std::collections::VecDeque;
 use std::fs::{DirEntry, File};
@@ -17,24 +17,56 @@ use std::rt::Files;
 use std::{fs, io};
 use tup_path::{MAX_DEPTH, Path, PathFault, Text};
 
-/// The files that were found, and the folders that are to be looked into.
+/// All files below the folder.
+#[derive(Drop)]
+pub struct Listing {
+    /// Their paths, in order.
+    pub paths: Vec<Path>,
+    /// Where each was found.
+    pub places: Vec<Listed>,
+}
+
+/// A file that was listed.
+#[derive(Drop)]
+pub struct Listed {
+    pub place: String,
+    /// Which file it is; of a link that isn't told.
+    pub inode: Option<Inode>,
+}
+
+/// The files that were found, with their places, and the folders that are to be looked into.
 #[derive(Drop)]
 struct Found {
     files: Vec<Path>,
+    places: Vec<Listed>,
     folders: VecDeque<Path>,
+}
+
+impl Found {
+    fn add(&mut self, path: Path, place: String, inode: Option<Inode>) -> Result<(), Refused>
+        ensures cause { IfErr result (λ refused. refused ≡ Memory) }
+    {
+        self.files.push(path)?;
+        self.places.push(Listed { place, inode })?;
+        Ok(())
+    }
 }
 
 impl<R: Files<File = File> + Clone + Drop> Disk<R> {
     /// The regular files and the links below the top whose names are all visible, in the order of paths. No link is
     /// followed.
-    pub fn files(&self, seen: &mut Seen) -> Result<Vec<Path>, Refused>
-        ensures sorted { IfOk result (λ files. IsSorted by_names files.items) }
+    pub fn files(&self, seen: &mut Seen) -> Result<Listing, Refused>
+        ensures sorted { IfOk result (λ listing. IsSorted by_names listing.paths.items) }
         ensures cause { IfErr result (λ refused. (refused ≡ Memory)
             ⊎ IsUnlisted (string_bytes self.now.root) refused) }
     {
-        let mut files = self.walk(seen)?.files;
+        let found = self.walk(seen)?;
+        let mut files = found.files;
         files.sort()?;
-        Ok(files)
+        Ok(Listing {
+            paths: files,
+            places: found.places,
+        })
     }
 
     // From the top down, those of one depth after those above. So the files of each depth come in the order of paths, and
@@ -45,6 +77,7 @@ impl<R: Files<File = File> + Clone + Drop> Disk<R> {
     {
         let mut found = Found {
             files: Vec::new(self.alloc),
+            places: Vec::new(self.alloc),
             folders: VecDeque::new(self.alloc),
         };
         found.folders.push_back(Path::top(self.alloc))?;
@@ -90,24 +123,24 @@ impl<R: Files<File = File> + Clone + Drop> Disk<R> {
     {
         let place = self.place(path.names())?;
         match self.found_at(place.as_str())? {
-            Standing::File { .. } => found.files.push(path)?,
+            Standing::File { inode, .. } => found.add(path, place, Some(inode))?,
             Standing::Folder if path.depth() < MAX_DEPTH => found.folders.push_back(path)?,
             Standing::Link | Standing::Other if is_read_by_name(name) => {
                 return Err(self.in_the_way(place.as_str()));
             }
-            Standing::Link => self.add_link(path, place.as_str(), found)?,
+            Standing::Link => self.add_link(path, place, found)?,
             _ => {}
         }
         Ok(())
     }
 
     // A link is found where it can be told where it leads.
-    fn add_link(&self, path: Path, place: &str, found: &mut Found) -> Result<(), Refused>
+    fn add_link(&self, path: Path, place: String, found: &mut Found) -> Result<(), Refused>
         ensures cause { IfErr result (λ refused. (refused ≡ Memory)
-            ⊎ IsNamed Operation.Look place.now refused) }
+            ⊎ IsNamed Operation.Look (string_bytes place) refused) }
     {
-        if self.target(place)?.is_some() {
-            found.files.push(path)?;
+        if self.target(place.as_str())?.is_some() {
+            found.add(path, place, None)?;
         }
         Ok(())
     }

@@ -3,7 +3,7 @@ ghost use Rattle.std.specs.Prelude.{◌≡◌, ◌⊎◌, ◌↔◌, ◌-◌, fa
 ghost use Rattle.std.specs.BTreeSet.{IsEmpty, contains_text};
 ghost use Rattle.tup_disk.specs.Marked.{IsMarked};
 ghost use Rattle.tup_disk.specs.Place.{places_to};
-ghost use Rattle.tup_disk.specs.Told.{IsNamed, IsBarred, IsBarredAbove, IsUnmade, IsUnsynced, SaysAbsence};
+ghost use Rattle.tup_disk.specs.Told.{IsNamed, IsBarred, IsBarredAbove, IsUnmade, IsUnopened, IsUnsynced, SaysAbsence};
 ghost use Rattle.tup_disk.specs.declared.disk.Syncs.TheVariants.{Skipped};
 ghost use Rattle.tup_disk.specs.declared.failure.Refused.TheVariants.{Memory};
 ghost use Rattle.tup_disk.specs.declared.standing.Standing.TheVariants.{Folder};
@@ -22,12 +22,24 @@ use tup_path::Path;
 /// The bits of a mode by which its owner, its group and all others may run a file.
 const RUN_BITS: u32 = 0o111;
 
+/// Which file of the system one is, whatever its name is.
+#[derive(Clone, Copy, PartialEq, Eq)]
+pub struct Inode {
+    device: u64,
+    number: u64,
+}
+
 /// What stands at a place. A link is one, wherever it leads.
 #[derive(Clone, Copy, PartialEq, Eq)]
 pub enum Standing {
     Nothing,
     /// A regular file of so many bytes, which has so many names. `runs` says whether anybody may run it.
-    File { len: u64, names: u64, runs: bool },
+    File {
+        len: u64,
+        names: u64,
+        runs: bool,
+        inode: Inode,
+    },
     Folder,
     /// A link, whether anything stands where it leads or not.
     Link,
@@ -81,6 +93,22 @@ impl<R: Files<File = File> + Clone + Drop> Disk<R> {
     /// What stands at a place; it is a failure that nothing does.
     pub(crate) fn look(&self, place: &str) -> io::Result<Standing> {
         Ok(kind_of(&fs::symlink_metadata(&self.rt, place)?))
+    }
+
+    /// Opens the file that was listed at a place, and tells its length. `None` where it isn't there any more.
+    pub fn open_listed(&self, place: &str, inode: Inode) -> Result<Option<(File, u64)>, Refused>
+        ensures cause { IfErr result (IsUnopened place.now) }
+    {
+        let file = match File::open(&self.rt, place) {
+            Err(e) if is_absence(e.kind()) => return Ok(None),
+            opened => self.at(Operation::Open, place, opened)?,
+        };
+        let found = self.at(Operation::Look, place, file.metadata())?;
+        if found.is_file() && inode_of(&found) == inode {
+            Ok(Some((file, found.len())))
+        } else {
+            Ok(None)
+        }
     }
 
     /// Where the link at a place leads. `None` where that isn't UTF-8, or nothing stands there any more.
@@ -240,6 +268,7 @@ fn kind_of(found: &Metadata) -> Standing {
             len: found.len(),
             names: found.nlink(),
             runs: found.mode() & RUN_BITS != 0,
+            inode: inode_of(found),
         }
     } else if found.is_dir() {
         Standing::Folder
@@ -247,6 +276,13 @@ fn kind_of(found: &Metadata) -> Standing {
         Standing::Link
     } else {
         Standing::Other
+    }
+}
+
+fn inode_of(found: &Metadata) -> Inode {
+    Inode {
+        device: found.dev(),
+        number: found.ino(),
     }
 }
 

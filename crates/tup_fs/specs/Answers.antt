@@ -28,7 +28,7 @@ known_at answers place = known_from answers.is_listed (get_by_text answers.place
 abbrev pub known_of : Found → Known
 known_of found.Nothing = Absent
 known_of (found.Content bytes) = Sum (sum bytes)
-known_of (found.TooLarge len) = File
+known_of (found.TooLarge len) = File None
 
 -- the same of what the site answers
 abbrev pub known_by : Option Content → Known
@@ -41,15 +41,15 @@ abbrev pub may_follow : Known → Known → Bool
 may_follow Unknown now = true
 may_follow Absent Absent = true
 may_follow Absent Unknown = false
-may_follow Absent File = false
+may_follow Absent (File inode) = false
 may_follow Absent (Sum after) = false
-may_follow File Absent = true
-may_follow File Unknown = false
-may_follow File File = true
-may_follow File (Sum after) = true
+may_follow (File inode) Absent = true
+may_follow (File inode) Unknown = false
+may_follow (File inode) (File other) = true
+may_follow (File inode) (Sum after) = true
 may_follow (Sum before) Absent = false
 may_follow (Sum before) Unknown = false
-may_follow (Sum before) File = false
+may_follow (Sum before) (File inode) = false
 may_follow (Sum before) (Sum after) = before == after
 
 -- what is known now may follow what was known of a place

@@ -14,8 +14,7 @@ use std::fs::File;
 use std::hash::{DefaultHasher, Hasher};
 use std::io;
 use std::rt::Files;
-use tup_disk::{Disk, Operation, Refused};
-use tup_path::Path;
+use tup_disk::{Disk, Inode, Listed, Operation, Refused};
 
 /// What is known of a place.
 #[derive(Clone, Copy)]
@@ -24,8 +23,8 @@ pub(crate) enum Known {
     Unknown,
     /// No file is there.
     Absent,
-    /// A file is there.
-    File,
+    /// A file is there: this one, where it was listed and not read yet.
+    File(Option<Inode>),
     /// A file is there, and its content has this sum.
     Sum(u64),
 }
@@ -72,30 +71,27 @@ impl Answers {
     }
 
     /// These are all files that there are. What was answered before still holds, as after the second time.
-    pub fn list<R: Files<File = File> + Clone + Drop>(
-        &mut self,
-        disk: &Disk<R>,
-        files: &[Path],
-    ) -> Result<(), Refused>
+    pub fn list(&mut self, files: Vec<Listed>) -> Result<(), Refused>
         ensures keeps { StayKnown self.old self.new }
     {
         if self.is_listed {
             return Ok(());
         }
-        for path in files {
-            self.add(disk.place(path.names())?)?;
+        for file in files {
+            self.add(file)?;
         }
         self.is_listed = true;
         Ok(())
     }
 
     // A file is at a place, if nothing else is known of it.
-    fn add(&mut self, place: String) -> Result<(), Refused>
+    fn add(&mut self, file: Listed) -> Result<(), Refused>
         ensures keeps { StayKnown self.old self.new }
         ensures list { self.new.is_listed ≡ self.old.is_listed }
     {
+        let Listed { place, inode } = file;
         match self.known_at(place.as_str()) {
-            Known::Unknown => self.learn(place, Known::File),
+            Known::Unknown => self.learn(place, Known::File(inode)),
             _ => Ok(()),
         }
     }
@@ -134,7 +130,7 @@ fn known_of(found: &Found) -> Known
     match found {
         Found::Nothing => Known::Absent,
         Found::Content(bytes) => Known::Sum(sum(bytes.as_slice())),
-        Found::TooLarge(_) => Known::File,
+        Found::TooLarge(_) => Known::File(None),
     }
 }
 
@@ -154,10 +150,10 @@ fn change(known: Known, now: Known) -> Option<&'static str>
     match (known, now) {
         (Known::Unknown, _) => None,
         // What goes between its listing and its first reading was never read.
-        (Known::Absent | Known::File, Known::Absent) => None,
+        (Known::Absent | Known::File(_), Known::Absent) => None,
         (Known::Absent, _) => Some("it was not there before"),
         (_, Known::Absent) => Some("it was removed while tup ran"),
-        (Known::File, Known::File | Known::Sum(_)) => None,
+        (Known::File(_), Known::File(_) | Known::Sum(_)) => None,
         (Known::Sum(before), Known::Sum(after)) if before == after => None,
         _ => Some("it was changed while tup ran"),
     }

@@ -4,6 +4,7 @@ ghost use Rattle.tup_disk.specs.Place.{place_of};
 ghost use Rattle.tup_fs.specs.Answers.{Follows, Learns, known_of};
 ghost use Rattle.tup_fs.specs.Found.{IsFoundAs, IsTextOf, IsWithin};
 
+use crate::answers::Known;
 use crate::tree::Tree;
 use std::fs::File;
 use std::io;
@@ -81,6 +82,9 @@ impl Tree {
         if disk.standing_above(&mut self.seen, path)? != Standing::Folder {
             return Ok(Found::Nothing);
         }
+        if let Some((file, len)) = self.open_listed(disk, place)? {
+            return read_within(disk, file, place, len);
+        }
         match disk.standing(place)? {
             Standing::File { len, .. } if len > MAX_FILE_BYTES => Ok(Found::TooLarge(len)),
             Standing::File { len, .. } => read(disk, disk.open(place)?, place, len),
@@ -88,6 +92,33 @@ impl Tree {
             _ => Ok(Found::Nothing),
         }
     }
+
+    // The file that was listed at a path, if it wasn't read yet and is there still: it isn't looked at by its path again.
+    fn open_listed<R: Files<File = File> + Clone + Drop>(
+        &self,
+        disk: &Disk<R>,
+        place: &str,
+    ) -> Result<Option<(File, u64)>, Refused> {
+        match self.answers.known_at(place) {
+            Known::File(Some(inode)) => disk.open_listed(place, inode),
+            _ => Ok(None),
+        }
+    }
+}
+
+/// What an open file holds, if it isn't too large by the length that it had when it was looked at.
+fn read_within<R: Files<File = File> + Clone + Drop>(
+    disk: &Disk<R>,
+    file: File,
+    place: &str,
+    len: u64,
+) -> Result<Found, Refused>
+    ensures { IfOk result IsWithin }
+{
+    if len > MAX_FILE_BYTES {
+        return Ok(Found::TooLarge(len));
+    }
+    read(disk, file, place, len)
 }
 
 /// What is found at a link that leads there.

@@ -7,7 +7,7 @@ use crate::answers::Answers;
 use std::alloc::Global;
 use std::fs::File;
 use std::rt::Files;
-use tup_disk::{Disk, Refused, Seen};
+use tup_disk::{Disk, Listing, Refused, Seen};
 use tup_path::Path;
 
 /// What is known of the tree: the folders that were seen, whether the file system may ignore case,
@@ -35,8 +35,8 @@ impl Tree {
     ) -> Result<Vec<Path>, Refused>
         ensures { IfOk result (λ files. IsSorted by_names files.items) }
     {
-        let files = disk.files(&mut self.seen)?;
-        self.answers.list(disk, files.as_slice())?;
-        Ok(files)
+        let Listing { paths, places } = disk.files(&mut self.seen)?;
+        self.answers.list(places)?;
+        Ok(paths)
     }
 }

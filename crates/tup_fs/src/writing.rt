@@ -46,7 +46,12 @@ impl Tree {
         self.make_folders(disk, path)?;
         match disk.standing(place.as_str())? {
             Standing::Nothing => make(disk, place.as_str(), content),
-            Standing::File { len, names, runs } => {
+            Standing::File {
+                len,
+                names,
+                runs,
+                ..
+            } => {
                 self.check_spelling(disk, path, place.as_str())?;
                 let is_alike = len == content.len() as u64 && runs == is_program(content);
                 let may_stay = names == 1 && is_alike;
