@@ -1,17 +1,20 @@
 -- Changes that are gathered one after another, and put in order at once.
-use Rattle.std.specs.Prelude.{◌≡◌, ℕ, ◌+◌, Bool, true, false, cond, List, [], ◌∷◌, ◌++◌, Option, Some, None}
+use Rattle.std.specs.Prelude.{◌≡◌, ℕ, ◌+◌, Bool, true, false, cond, not, ◌&&◌, List, [], ◌∷◌, ◌++◌, Option, Some, None}
 use Rattle.std.proofs.Common.{refl, sym, ap, subst, ◌∙◌, zero-add}
-use Rattle.std.proofs.lemmas.Cmp.{nat_list_cmp_total}
+use Rattle.std.proofs.lemmas.Cmp.{nat_cmp_total, nat_list_cmp_total, tied_itself}
+use Rattle.std.proofs.lemmas.Bool.{false≢true}
 use Rattle.std.proofs.lemmas.Option.{none-some, same_Some}
 use Rattle.std.specs.BTreeMap.{BTreeMap, IsFromIterResult, insert_entry, is_at}
-use Rattle.std.specs.List.{AllByRecursion}
+use Rattle.std.specs.List.{AllByRecursion, filter}
+use Rattle.std.specs.List.Sorted.{ties}
 use Rattle.std.specs.Map.{lookup, update_all}
-use Rattle.std.specs.Ordering.{eq_by_cmp, is_eq, ordering_reverse}
+use Rattle.std.specs.Ordering.{eq_by_cmp, is_eq, is_lt, nat_cmp, ordering_reverse}
 use Rattle.std.specs.declared.cmp.Ordering.{Ordering}
 use Rattle.std.specs.declared.cmp.Ordering.TheVariants.{Less, Equal, Greater}
 use Rattle.tup_path.specs.Order.{by_bytes}
 use Rattle.tup_table.specs.Compact.{EntriesFit, size_in, size_of}
 use Rattle.tup_table.specs.Entries.{Standing, IsAscending, changed}
+use Rattle.tup_table.specs.KeyFronts.{AreByFronts, front_of}
 use Rattle.tup_table.specs.Slots.{Slots, gathered, in_front, slot_of, standing}
 use Rattle.tup_table.specs.Spelling.{ChangeFits}
 use Rattle.tup_table.specs.declared.change.Change.{Change}
@@ -96,10 +99,49 @@ same_slots (e ∷ es) (f ∷ fs) up over same =
       | Greater ↦ λ o. absurd (none-some f.1 (sym (before_first f.0 e es (nat_list_cmp_total.antisymm f.0 e.0 ∙ ap ordering_reverse o) up) ∙ same f.0 ∙ first_found f fs))
     ]) refl
 
--- a map that is made of slots has them in order, the last one of each key
-pub made_of : (slots : Slots) (made : BTreeMap (List ℕ) (Option Entry)) → IsFromIterResult by_bytes slots made → made.entries ≡ gathered [] slots
-made_of slots made is =
-    same_slots made.entries (gathered [] slots) (ascends made.entries is.1) (gathered_ascends [] slots tt) (λ q. is.0 q ∙ sym (lookups [] slots (λ _. None) (λ r. refl) q))
+-- ---- slots by their fronts
+-- what stands under a key is by the slots of any kind that has all slots of this key
+only_kept : (p : List ℕ × Option Entry → Bool) (q : List ℕ) → ((s : List ℕ × Option Entry) → eq_by_cmp by_bytes s.0 q ≡ true → p s ≡ true)
+    → (slots : Slots) (f g : List ℕ → Option (Option Entry)) → f q ≡ g q → update_all (eq_by_cmp by_bytes) f slots q ≡ update_all (eq_by_cmp by_bytes) g (filter p slots) q
+only_kept p q has [] f g same = same
+only_kept p q has (s ∷ slots) f g same =
+    (elim (p s) as (λ t. p s ≡ t → update_all (eq_by_cmp by_bytes) f (s ∷ slots) q ≡ update_all (eq_by_cmp by_bytes) g (cond t (s ∷ filter p slots) (filter p slots)) q) [
+      | true ↦ λ t.
+          only_kept p q has slots (λ r. cond (eq_by_cmp by_bytes s.0 r) (Some s.1) (f r)) (λ r. cond (eq_by_cmp by_bytes s.0 r) (Some s.1) (g r))
+          (ap (λ (found : Option (Option Entry)). cond (eq_by_cmp by_bytes s.0 q) (Some s.1) found) same)
+      | false ↦ λ t. only_kept p q has slots (λ r. cond (eq_by_cmp by_bytes s.0 r) (Some s.1) (f r)) g (not_taken s f g same t (eq_by_cmp by_bytes s.0 q) refl)
+    ]) refl
+  where
+    not_taken : (s : List ℕ × Option Entry) (f g : List ℕ → Option (Option Entry)) → f q ≡ g q → p s ≡ false → (t : Bool) → eq_by_cmp by_bytes s.0 q ≡ t → cond (eq_by_cmp by_bytes s.0 q) (Some s.1) (f q) ≡ g q
+    not_taken s f g same other true t = absurd (false≢true (sym other ∙ has s t))
+    not_taken s f g same other false t = ap (λ b. cond b (Some s.1) (f q)) t ∙ same
+
+-- a front is neither less nor more than that of the same key
+abbrev AreTied : List ℕ → List ℕ → Type 0
+AreTied q k = (not (is_lt (nat_cmp (front_of q) (front_of k))) && not (is_lt (nat_cmp (front_of k) (front_of q)))) ≡ true
+
+tied : (q : List ℕ) → AreTied q q
+tied q = ap (λ (o : Ordering). not (is_lt o) && not (is_lt o)) (tied_itself nat_cmp_total (front_of q))
+
+abbrev of_front : (q : List ℕ) → List ℕ × Option Entry → Bool
+of_front q = ties (λ (x y : List ℕ × Option Entry). is_lt (nat_cmp (front_of x.0) (front_of y.0))) (q, None)
+
+same_front : (q : List ℕ) (s : List ℕ × Option Entry) → eq_by_cmp by_bytes s.0 q ≡ true → of_front q s ≡ true
+same_front q s t = subst (AreTied q) (sym (same_at s.0 q t)) (tied q)
+
+-- so slots leave the same under each key once they stand by their fronts
+by_fronts_same : (slots sorted : Slots) → AreByFronts slots sorted → (q : List ℕ)
+    → update_all (eq_by_cmp by_bytes) (λ _. None) sorted q ≡ update_all (eq_by_cmp by_bytes) (λ _. None) slots q
+by_fronts_same slots sorted stable q =
+    only_kept (of_front q) q (same_front q) sorted (λ _. None) (λ _. None) refl
+    ∙ ap (λ (kept : Slots). update_all (eq_by_cmp by_bytes) (λ _. None) kept q) (stable (q, None))
+    ∙ sym (only_kept (of_front q) q (same_front q) slots (λ _. None) (λ _. None) refl)
+
+-- a map that is made of slots by their fronts has them in order, the last one of each key
+pub made_of : (slots sorted : Slots) → AreByFronts slots sorted → (made : BTreeMap (List ℕ) (Option Entry)) → IsFromIterResult by_bytes sorted made → made.entries ≡ gathered [] slots
+made_of slots sorted stable made is =
+    same_slots made.entries (gathered [] slots) (ascends made.entries is.1) (gathered_ascends [] slots tt)
+    (λ q. is.0 q ∙ by_fronts_same slots sorted stable q ∙ sym (lookups [] slots (λ _. None) (λ r. refl) q))
 
 -- ---- sizes
 size_front : (key : List ℕ) (slot : Option Entry) (more : Standing) → size_of (in_front key slot more) ≡ size_in key slot + size_of more

@@ -4,6 +4,7 @@ pub mod Entries
 pub mod Compact
 pub mod Store
 pub mod Slots
+pub mod KeyFronts
 pub mod Reading
 pub mod Appending
 pub mod Cause

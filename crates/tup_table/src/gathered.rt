@@ -4,6 +4,7 @@ ghost use Rattle.std.specs.BTreeMap.{IsOrdered};
 ghost use Rattle.tup_path.specs.Order.{by_bytes};
 ghost use Rattle.tup_table.specs.Compact.{size_in, size_of};
 ghost use Rattle.tup_table.specs.Entries.{changed};
+ghost use Rattle.tup_table.specs.KeyFronts.{AreByFronts, front_by as front_of_first, front_of};
 ghost use Rattle.tup_table.specs.Slots.{gathered, slot_of as slot_by, standing};
 ghost use Rattle.tup_table.specs.Spelling.{ChangeFits};
 
@@ -13,6 +14,7 @@ use crate::entry::Entry;
 use crate::fault::TableFault;
 use crate::size::with;
 use crate::slots::Slots;
+use byteorder::{BigEndian, ByteOrder};
 use std::alloc::{AllocError, Global};
 use std::marker::Model;
 use tup_path::{Bytes, Items};
@@ -78,12 +80,48 @@ fn slot_of(change: Change, origin: u64) -> (Bytes, Option<Entry>)
     }
 }
 
-/// Slots in the byte order of keys, the last one of each key.
+/// Slots in the byte order of keys, the last one of each key. Most are in order once their fronts are, which are compared as
+/// numbers.
 fn in_order(alloc: Global, slots: Vec<(Bytes, Option<Entry>)>) -> Result<Slots, AllocError>
     ensures entries { IfOk result (λ map. map.entries ≡ gathered [] slots.items) }
     ensures ordered { IfOk result (IsOrdered by_bytes) }
 {
-    slots.into_iter().collect(alloc)
+    let sorted = by_fronts(slots)?;
+    sorted.into_iter().collect(alloc)
+}
+
+/// Slots in the order of the fronts of their keys; those of one front stay in their order.
+fn by_fronts(
+    mut slots: Vec<(Bytes, Option<Entry>)>,
+) -> Result<Vec<(Bytes, Option<Entry>)>, AllocError>
+    ensures { IfOk result (λ sorted. AreByFronts slots.items sorted.items) }
+{
+    slots.sort_by_cached_key(|slot| front(slot.0.as_slice()))?;
+    Ok(slots)
+}
+
+/// The front of a key: its first 16 bytes as a number, or all of them with as many zeros behind them as there are less.
+fn front(key: &[u8]) -> u128
+    ensures { result ≡ front_of key.now }
+{
+    if key.len() >= 16 {
+        return front_by(key, 16);
+    }
+    if key.is_empty() {
+        return 0;
+    }
+    front_by(key, key.len())
+}
+
+/// So many first bytes of a key as a number, in the place of the highest of 16 bytes.
+fn front_by(key: &[u8], count: usize) -> u128
+    requires some { 1 ≤ count }
+    requires few { count ≤ 16 }
+    requires there { count ≤ length key.now }
+    ensures { result ≡ front_of_first count key.now }
+{
+    let number = BigEndian::read_uint128(key, count);
+    number.rotate_right(8 * count as u32)
 }
 
 /// How many bytes the entries of slots take in a commit.

@@ -8,12 +8,12 @@ use Rattle.tup_table.proofs.gathered.in_order.Goals as goal
 
 pub returns-clause-entries : goal.returns-clause-entries
 returns-clause-entries c =
-    let slots = c.args.slots.items in
-    IfOk-weaker c.collect.result _ _ (λ map made. made_of slots map made) (fact_from_collect (IsFromIterResult by_bytes) c.collect.result c.collect.ensures.ran
-    (YieldsList-from_vec slots c.into_iter.ensures.rest (omega (arith, c.into_iter.ensures.len, c.args.slots.ok.0))))
+    let sorted = c.in_ok-sorted.sorted.items in
+    IfOk-weaker c.collect.result _ _ (λ map made. made_of c.args.slots.items sorted c.in_ok-sorted.ensures map made) (fact_from_collect (IsFromIterResult by_bytes) c.collect.result c.collect.ensures.ran
+    (YieldsList-from_vec sorted c.into_iter.ensures.rest (omega (arith, c.into_iter.ensures.len, c.in_ok-sorted.sorted.ok.0))))
 
 pub returns-clause-ordered : goal.returns-clause-ordered
 returns-clause-ordered c =
-    let slots = c.args.slots.items in
+    let sorted = c.in_ok-sorted.sorted.items in
     IfOk-weaker c.collect.result _ _ (λ map made. made.1) (fact_from_collect (IsFromIterResult by_bytes) c.collect.result c.collect.ensures.ran
-    (YieldsList-from_vec slots c.into_iter.ensures.rest (omega (arith, c.into_iter.ensures.len, c.args.slots.ok.0))))
+    (YieldsList-from_vec sorted c.into_iter.ensures.rest (omega (arith, c.into_iter.ensures.len, c.in_ok-sorted.sorted.ok.0))))
