@@ -102,7 +102,7 @@ pub record Updates (next : Next) (many : ℕ) (wanted : Wanted) (old new : MemSi
   pub kept : BringsUp wanted → IsKept next new
 
 -- What a run is answered that nothing stands in the way of, where nothing failed: an update of a kept project is done, if its runners tell,
--- and what an update would do is found out; unless there was no memory.
+-- unless there was no memory or no room in the store; and what an update would do is found out, unless there was no memory.
 pub record Finishes (tells : Bool) (next : Next) (wanted : Wanted) (old new : MemSite) (before now : Counts) (status : Status) : Type 0 where
   pub success : IsTrue tells → IsKept next old → Succeeds wanted memory.ghosts next old new before now ⊤ status
   pub lists : ((any : Next) × IsKept any old) → Lists wanted (world_in old) (world_in new) before now ⊤ status

@@ -130,8 +130,8 @@ fn brings_nothing(nodes: &Nodes, found: &Refreshed) -> bool
     found.fresh.len() == 0 && found.gone.len() == 0 && nodes.created().next().is_none()
 }
 
-/// Gives up readings that brought nothing. Where no rule is flagged the program ends with its update: that their memory is
-/// freed piece by piece then helps nobody.
+/// Gives up readings that brought nothing. Where no rule is flagged the update ends soon, and `tup` with it: that their memory is
+/// freed piece by piece then helps nobody. A program that makes several updates keeps it.
 fn let_go(nodes: &Nodes, found: Refreshed) {
     if nodes.flags().next().is_none() {
         mem::forget(found);
