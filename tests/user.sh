@@ -435,6 +435,9 @@ unknown 'fail 127' ''
 row "where files are compared" 1 'fault: .: fail 127: status 127;' '' verify
 project ': a |> cc a |> b'
 row "it is compared" 1 'fault: .: cc a: status 127;' 'tup: no such built-in command: cc; `tup verify` runs no others;' verify
+folder ': a |> cp a -f b |> b'
+"$tup" init --proc "$sh" > /dev/null
+row "one of a program is compared" 1 'fault: .: cp a -f b: status 2;' "tup: \`tup verify\` runs the built-in commands alone, and $sh runs those of this project;" verify
 project ': a |> cp a |> b'
 row "a small command that is wrong" 1 'read .;bad .: cp a;fault: .: cp a: status 2;' ''
 

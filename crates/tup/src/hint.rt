@@ -71,6 +71,32 @@ pub(crate) fn name_program(rt: HostRuntime, alloc: Global, status: &Status, othe
     }
 }
 
+/// Who runs the commands of a project, where that is a program and the files were compared without it: a command that was bad so,
+/// or left other files, may be good.
+pub(crate) fn name_runner(rt: HostRuntime, status: &Status, program: &Option<Text>) {
+    if let Some(program) = program {
+        if is_of_commands(status) {
+            // Words that can't be printed change nothing: the exit number tells as much.
+            drop(eprintln!(rt;
+                "tup: `tup verify` runs the built-in commands alone, and {program} runs those of this project"
+            ));
+        }
+    }
+}
+
+/// Whether files differ, or a command was bad in another way than by its name.
+fn is_of_commands(status: &Status) -> bool {
+    match status {
+        Status::Command { status, .. } => *status != UNKNOWN,
+        Status::IllegalRead { .. }
+        | Status::IllegalWrite { .. }
+        | Status::Unwritten { .. }
+        | Status::TooManyReads { .. }
+        | Status::Differs { .. } => true,
+        _ => false,
+    }
+}
+
 /// The word by which a command ended with the status of an unknown one.
 fn unknown_word(alloc: Global, text: &Text) -> Result<Option<Text>, AllocError> {
     let words = words(alloc, text)?;

@@ -225,6 +225,7 @@ fn verify<W: Threads + Wait + Sync>(
         Ok((top, options)) => {
             let status = run_small(rt, crews, alloc, words, &top, options.syncs);
             hint::name_program(rt, alloc, &status, "`tup verify` runs no others");
+            hint::name_runner(rt, &status, &options.program);
             status.exit()
         }
         Err(status) => status,
