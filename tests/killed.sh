@@ -75,6 +75,15 @@ after_a_kill() {
     printf '%s\n' ': body |> cp body page |> page' > Tupfile
 }
 
+# A header that no rule declares has changed: the rule that reads it is to be run, and the one above it.
+header_edited() {
+    printf '#define A\n' > inc.h
+    printf '#include "inc.h"\nbody\n' > body
+    printf '%s\n' ': body |> incl body top |> top' ': top |> cp top page |> page' ': body |> cp body index |> index' > Tupfile
+    "$tup" > /dev/null
+    printf '#define B\n' > inc.h
+}
+
 # Folders below the top: one whose file changes, and one that loses its Tupfile and so its only file.
 folders_below() {
     mkdir -p kept/deep gone/deep
@@ -324,6 +333,7 @@ commits_of() {
         after_changes) echo 10 ;;
         listing) echo 2 ;;
         fewer_paths) echo 4 ;;
+        header_edited) echo 5 ;;
         after_a_kill | folders_below) echo 6 ;;
     esac
 }
@@ -438,7 +448,7 @@ sources_of_several() { cat head Tupfile; }
 
 behind_a_bad_rule
 [ $# -gt 0 ] || by_several_runners
-for project in ${*:-beginning comparison listing three_rules after_changes fewer_paths after_a_kill folders_below}; do try "$project"; done
+for project in ${*:-beginning comparison listing three_rules after_changes header_edited fewer_paths after_a_kill folders_below}; do try "$project"; done
 
 if [ "$failures" -gt 0 ]; then
     echo "$failures of $all updates that were stopped went wrong"
