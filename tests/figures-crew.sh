@@ -24,10 +24,11 @@ load() { cut -d ' ' -f 1 /proc/loadavg; }
 # The seconds by the clock, and of a processor with all that they start, that these words take.
 seconds() {
     python3 -c 'if 1:
-        import resource, subprocess, sys, time
+        import os, subprocess, sys, time
         begun = time.perf_counter()
-        subprocess.run(sys.argv[1:], stdout=subprocess.DEVNULL, check=True)
-        used = resource.getrusage(resource.RUSAGE_CHILDREN)
+        run = subprocess.Popen(sys.argv[1:], stdout=subprocess.DEVNULL)
+        _, status, used = os.wait4(run.pid, 0)
+        if status != 0: sys.exit(1)
         print("%.2f %.2f" % (time.perf_counter() - begun, used.ru_utime + used.ru_stime))' "$@"
 }
 

@@ -29,10 +29,11 @@ update() {
     echo "$1" > h
     shift
     python3 -c 'if 1:
-        import resource, subprocess, sys, time
+        import os, subprocess, sys, time
         begun = time.perf_counter()
-        subprocess.run(sys.argv[2:], stdout=open(sys.argv[1], "w"), check=True)
-        used = resource.getrusage(resource.RUSAGE_CHILDREN)
+        run = subprocess.Popen(sys.argv[2:], stdout=open(sys.argv[1], "w"))
+        _, status, used = os.wait4(run.pid, 0)
+        if status != 0: sys.exit(1)
         print("%.3f %.3f" % (time.perf_counter() - begun, used.ru_utime + used.ru_stime))' "$work/told" "$tup" upd -j 1 "$@"
 }
 
