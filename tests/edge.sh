@@ -65,9 +65,9 @@ done < "$work/list"
 [ -s "$work/list" ] || same "calls of an update" none some
 
 # Less and less memory for the program itself: an update is done, or it ends with 12 and leaves the old output or the new one,
-# as it takes all its memory before a file goes (with 127 it didn't even begin; with 2,400 the system can't load it).
+# as it takes all its memory before a file goes (with 127 it didn't even begin; with 2,500 the system can't load it).
 wanted_large=$(head -c 1000000 /dev/zero | tr '\0' x | cksum)
-for limit in $(seq 2500 250 9000); do
+for limit in $(seq 2750 250 9000); do
     what="$limit kilobytes of memory"
     project "$copy"
     "$tup" > /dev/null
