@@ -73,7 +73,10 @@ fn write_all<T: Field>(items: &[T], bytes: &mut Bytes) -> Result<(), RecordFault
     Ok(())
 }
 
-/// Reads so many items. Room is taken for those that are read, and not for the count.
+/// For how many items a list takes room before the first is read. Most lists have fewer, and a damaged count may be any.
+const ROOM: usize = 16;
+
+/// Reads so many items.
 fn read_all<T: Field>(
     alloc: Global,
     count: u32,
@@ -84,7 +87,7 @@ fn read_all<T: Field>(
         (λ fault. (fault ≡ RecordFault.Memory)
         ⊎ (many_at T.format.reading count reader.old ≡ Err fault)) }
 {
-    let mut items = Items::new(alloc);
+    let mut items = Items::with_room(alloc, (count as usize).min(ROOM))?;
     for _ in 0..count {
         items.push(T::read(alloc, reader)?)?;
     }

@@ -47,6 +47,15 @@ impl<T> Items<T> {
         }
     }
 
+    /// The empty list, with room for so many values.
+    pub fn with_room(alloc: Global, count: usize) -> Result<Items<T>, AllocError>
+        ensures { IfOk result (λ items. items ≡ []) }
+    {
+        Ok(Items {
+            items: Vec::with_capacity(alloc, count)?,
+        })
+    }
+
     /// Takes the values over; nothing is copied.
     pub fn from_vec(items: Vec<T>) -> Items<T>
         ensures { result ≡ items.items }
