@@ -126,7 +126,7 @@ names_push : (paths : List Names) (dir path : Names) (name : List ℕ) → name_
     → names_in_folder (paths ++ path ∷ []) dir ≡ insert_key by_bytes (names_in_folder paths dir) name
 names_push paths dir path name is =
     let one : names_among dir (path ∷ []) ≡ name ∷ [] = ap (λ found. cons_option found []) is in
-    ap in_order (filter_map-append (name_in dir) paths (path ∷ []) ∙ ap (λ l. names_among dir paths ++ l) one) ∙ in_order-more (names_among dir paths) (name ∷ [])
+    ap in_order (filter_map-append (name_in dir) paths (path ∷ []) ∙ ap (λ l. names_among dir paths ++ l) one) ∙ in_order-more None (names_among dir paths) (name ∷ [])
 
 names_stay : (paths : List Names) (dir path : Names) → name_in dir path ≡ None → names_in_folder (paths ++ path ∷ []) dir ≡ names_in_folder paths dir
 names_stay paths dir path is =

@@ -36,7 +36,7 @@ pub names_told : (sources : Tree) (readings : Readings) (reader dir : Names) (dr
     → listed ≡ names_in sources readings reader dir
 names_told sources readings reader dir drafts keys made listed is added before seen =
     is ∙ added ∙ ap (λ (names : List (List ℕ)). fold (insert_key by_bytes) names (names_among dir (made_by drafts))) before
-    ∙ sym (in_order-more (names_among dir (finite.keys sources)) (names_among dir (made_by drafts)))
+    ∙ sym (in_order-more None (names_among dir (finite.keys sources)) (names_among dir (made_by drafts)))
     ∙ ap in_order (sym (filter_map-append (name_in dir) (finite.keys sources) (made_by drafts)))
     ∙ ap (λ (ds : List Draft). in_order (names_among dir (finite.keys sources ++ made_by ds))) seen
 

@@ -1,11 +1,11 @@
 -- The files that a glob gives.
-use Rattle.std.proofs.Common.{◌≡◌, ℕ, ◌+◌, ◌<◌, ◌≤◌, true, if◌then◌else◌, List, [], ◌∷◌, ◌++◌, length, get_or, drop, fold, map, filter_map, Option, IsUtf8, refl, sym, ap, ◌∙◌, subst, arith, length-append, append_assoc}
+use Rattle.std.proofs.Common.{◌≡◌, ℕ, ◌+◌, ◌<◌, ◌≤◌, Bool, true, false, cond, if◌then◌else◌, List, [], ◌∷◌, ◌++◌, length, get_or, drop, fold, map, filter_map, Option, Some, None, IsUtf8, refl, sym, ap, ◌∙◌, subst, arith, length-append, append_assoc}
 use lib.Utf8.{scalar, scalars}
 use Rattle.std.specs.BTreeSet.{insert_key}
 use Rattle.std.specs.Str.{IsCharBoundary, chars, encode_utf8_all}
 use Rattle.std.proofs.lemmas.Bool.{and_parts}
 use Rattle.std.proofs.lemmas.List.{at_drop_more, at_drop_all, map-append}
-use Rattle.std.proofs.lemmas.List.Elements.{filter_map-append}
+use Rattle.std.proofs.lemmas.List.Elements.{filter-append, filter_map-append}
 use Rattle.std.proofs.lemmas.List.Sums.{fold-append}
 use Rattle.std.proofs.lemmas.Str.{IsCharBoundary-at_seam, encodes-append, encodes-chars, scalars-chars}
 use Rattle.tup_path.specs.Name.{Names}
@@ -26,7 +26,7 @@ use Rattle.tup_query.specs.Spot.{Spot}
 use Rattle.tup_rule_line.specs.State.{made_by}
 use Rattle.tup_rule_line.specs.Folder.{name_in, led_to_folder}
 use Rattle.tup_rule_line.specs.Found.{inputs_alone}
-use Rattle.tup_rule_line.specs.Glob.{names_among, in_order, names_of_files, matching, glob_of, matched_in, globbed}
+use Rattle.tup_rule_line.specs.Glob.{is_wanted, wanted, names_among, in_order, names_of_files, matching, glob_of, matched_in, globbed}
 
 -- ---- what an operator matched
 scalars-behind : (front back : List ℕ) → scalars (front ++ back) ≡ true → scalars back ≡ true
@@ -51,37 +51,61 @@ matched-cut symbols name span utf8 is =
     }
 
 -- ---- outputs that stand in a folder
--- names of a folder with those of more paths put among them
-abbrev pub with_names : Names → List (List ℕ) → List Names → List (List ℕ)
-with_names dir names paths = fold (insert_key by_bytes) names (names_among dir paths)
+-- of more names those are wanted that are wanted of each part
+wanted-append : (glob : Option (List Symbol)) (names more : List (List ℕ)) → wanted glob (names ++ more) ≡ wanted glob names ++ wanted glob more
+wanted-append None names more = refl
+wanted-append (Some symbols) names more = filter-append (is_wanted (Some symbols)) names more
+
+-- names of a folder with the wanted ones of more paths put among them
+abbrev pub with_names : Option (List Symbol) → Names → List (List ℕ) → List Names → List (List ℕ)
+with_names glob dir names paths = fold (insert_key by_bytes) names (wanted glob (names_among dir paths))
+
+-- one name put among others, if it is wanted
+pub one_wanted : (glob : Option (List Symbol)) (names : List (List ℕ)) (name : List ℕ) → fold (insert_key by_bytes) names (wanted glob (name ∷ [])) ≡ cond (is_wanted glob name) (insert_key by_bytes names name) names
+one_wanted None names name = refl
+one_wanted (Some symbols) names name = by (is_wanted (Some symbols) name)
+  where
+    by : (b : Bool) → fold (insert_key by_bytes) names (cond b (name ∷ []) []) ≡ cond b (insert_key by_bytes names name) names
+    by true = refl
+    by false = refl
+
+-- no name put among others
+pub none_wanted : (glob : Option (List Symbol)) (names : List (List ℕ)) → fold (insert_key by_bytes) names (wanted glob []) ≡ names
+none_wanted None names = refl
+none_wanted (Some symbols) names = refl
+
+-- the names of some paths, and then those of more
+both_parts : (glob : Option (List Symbol)) (dir : Names) (names : List (List ℕ)) (paths more : List Names) → with_names glob dir names (paths ++ more) ≡ with_names glob dir (with_names glob dir names paths) more
+both_parts glob dir names paths more =
+    ap (λ (found : List (List ℕ)). fold (insert_key by_bytes) names (wanted glob found)) (filter_map-append (name_in dir) paths more)
+    ∙ ap (fold (insert_key by_bytes) names) (wanted-append glob (names_among dir paths) (names_among dir more))
+    ∙ fold-append (insert_key by_bytes) names (wanted glob (names_among dir paths)) (wanted glob (names_among dir more))
 
 -- the names of one rule, and then those of the others
-pub made_more : (dir : Names) (names : List (List ℕ)) (drafts : List Draft) (index : ℕ) (draft : Draft) → index < length drafts → draft ≡ get_or drafts index draft
-    → with_names dir names (made_by (drop index drafts)) ≡ with_names dir (with_names dir names draft.outputs) (made_by (drop (index + 1) drafts))
-made_more dir names drafts index draft within is =
-    at_drop_more (λ (ds : List Draft). with_names dir names (made_by ds)) drafts index draft within
-    ∙ ap (λ (d : Draft). with_names dir names (made_by (d ∷ drop (index + 1) drafts))) (sym is)
-    ∙ ap (fold (insert_key by_bytes) names) (filter_map-append (name_in dir) draft.outputs (made_by (drop (index + 1) drafts)))
-    ∙ fold-append (insert_key by_bytes) names (names_among dir draft.outputs) (names_among dir (made_by (drop (index + 1) drafts)))
+pub made_more : (glob : Option (List Symbol)) (dir : Names) (names : List (List ℕ)) (drafts : List Draft) (index : ℕ) (draft : Draft) → index < length drafts → draft ≡ get_or drafts index draft
+    → with_names glob dir names (made_by (drop index drafts)) ≡ with_names glob dir (with_names glob dir names draft.outputs) (made_by (drop (index + 1) drafts))
+made_more glob dir names drafts index draft within is =
+    at_drop_more (λ (ds : List Draft). with_names glob dir names (made_by ds)) drafts index draft within
+    ∙ ap (λ (d : Draft). with_names glob dir names (made_by (d ∷ drop (index + 1) drafts))) (sym is)
+    ∙ both_parts glob dir names draft.outputs (made_by (drop (index + 1) drafts))
 
-pub made_end : (dir : Names) (names : List (List ℕ)) (drafts : List Draft) (index : ℕ) → length drafts ≤ index → with_names dir names (made_by (drop index drafts)) ≡ names
-made_end dir names drafts index past = at_drop_all (λ (ds : List Draft). with_names dir names (made_by ds)) drafts index past
+pub made_end : (glob : Option (List Symbol)) (dir : Names) (names : List (List ℕ)) (drafts : List Draft) (index : ℕ) → length drafts ≤ index → with_names glob dir names (made_by (drop index drafts)) ≡ names
+made_end glob dir names drafts index past = at_drop_all (λ (ds : List Draft). with_names glob dir names (made_by ds)) drafts index past ∙ none_wanted glob names
 
 -- the name of one path, and then those of the others
-pub named_more : (dir : Names) (names : List (List ℕ)) (paths : List Names) (index : ℕ) (path : Names) → index < length paths → path ≡ get_or paths index path
-    → with_names dir names (drop index paths) ≡ with_names dir (with_names dir names (path ∷ [])) (drop (index + 1) paths)
-named_more dir names paths index path within is =
-    at_drop_more (with_names dir names) paths index path within
-    ∙ ap (λ (p : Names). with_names dir names (p ∷ drop (index + 1) paths)) (sym is)
-    ∙ ap (fold (insert_key by_bytes) names) (filter_map-append (name_in dir) (path ∷ []) (drop (index + 1) paths))
-    ∙ fold-append (insert_key by_bytes) names (names_among dir (path ∷ [])) (names_among dir (drop (index + 1) paths))
+pub named_more : (glob : Option (List Symbol)) (dir : Names) (names : List (List ℕ)) (paths : List Names) (index : ℕ) (path : Names) → index < length paths → path ≡ get_or paths index path
+    → with_names glob dir names (drop index paths) ≡ with_names glob dir (with_names glob dir names (path ∷ [])) (drop (index + 1) paths)
+named_more glob dir names paths index path within is =
+    at_drop_more (with_names glob dir names) paths index path within
+    ∙ ap (λ (p : Names). with_names glob dir names (p ∷ drop (index + 1) paths)) (sym is)
+    ∙ both_parts glob dir names (path ∷ []) (drop (index + 1) paths)
 
-pub named_end : (dir : Names) (names : List (List ℕ)) (paths : List Names) (index : ℕ) → length paths ≤ index → with_names dir names (drop index paths) ≡ names
-named_end dir names paths index past = at_drop_all (with_names dir names) paths index past
+pub named_end : (glob : Option (List Symbol)) (dir : Names) (names : List (List ℕ)) (paths : List Names) (index : ℕ) → length paths ≤ index → with_names glob dir names (drop index paths) ≡ names
+named_end glob dir names paths index past = at_drop_all (with_names glob dir names) paths index past ∙ none_wanted glob names
 
--- names in order, and then those of more paths
-pub in_order-more : (names more : List (List ℕ)) → in_order (names ++ more) ≡ fold (insert_key by_bytes) (in_order names) more
-in_order-more names more = fold-append (insert_key by_bytes) [] names more
+-- wanted names in order, and then those of more names
+pub in_order-more : (glob : Option (List Symbol)) (names more : List (List ℕ)) → in_order (wanted glob (names ++ more)) ≡ fold (insert_key by_bytes) (in_order (wanted glob names)) (wanted glob more)
+in_order-more glob names more = ap in_order (wanted-append glob names more) ∙ fold-append (insert_key by_bytes) [] (wanted glob names) (wanted glob more)
 
 -- ---- the files that match
 -- what comes of the names that are told, and of all names

@@ -6,6 +6,7 @@ pub mod Sets
 pub mod Inputs
 pub mod Jobs
 pub mod Globs
+pub mod Sieved
 pub mod Cuttings
 pub mod Parts
 pub mod Rules

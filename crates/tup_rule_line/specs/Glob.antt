@@ -1,7 +1,7 @@
 -- The files that a glob gives, from the manual; what is refused, and in which order, is own.
 -- The names of an answer and the outputs so far are one ordered set, so nothing depends on the order of the answer.
-use Rattle.std.specs.Prelude.{ℕ, ◌-◌, ◌==◌, ◌||◌, Bool, if◌then◌else◌, List, [], ◌++◌, take, drop, fold, Option, None, option_map}
-use Rattle.std.specs.List.{filter_map, list_any}
+use Rattle.std.specs.Prelude.{ℕ, ◌-◌, ◌==◌, ◌||◌, Bool, true, if◌then◌else◌, List, [], ◌++◌, take, drop, fold, Option, None, Some, option_map}
+use Rattle.std.specs.List.{filter, filter_map, list_any}
 use Rattle.std.specs.Str.{chars}
 use Rattle.std.specs.BTreeSet.{insert_key}
 use Rattle.tup_path.specs.Name.{Names}
@@ -37,6 +37,16 @@ is_glob word = list_any is_operator (last_name word)
 -- those of paths that stand in a folder, by their names
 abbrev pub names_among : Names → List Names → List (List ℕ)
 names_among dir paths = filter_map (name_in dir) paths
+
+-- whether a name is wanted: those are that a glob matches, or all where there is none
+abbrev pub is_wanted : Option (List Symbol) → List ℕ → Bool
+is_wanted None name = true
+is_wanted (Some symbols) name = matches symbols (chars name)
+
+-- those of names that are wanted
+abbrev pub wanted : Option (List Symbol) → List (List ℕ) → List (List ℕ)
+wanted None names = names
+wanted (Some symbols) names = filter (is_wanted (Some symbols)) names
 
 -- names in byte order, each once
 abbrev pub in_order : List (List ℕ) → List (List ℕ)

@@ -1,7 +1,8 @@
 //! The files that a glob gives.
-ghost use Rattle.std.specs.Prelude.{◌≡◌, ◌≤◌, ◌++◌, ◌∷◌, [], false, IfOk, OnOk, fold, length, option_map, is_some};
+ghost use Rattle.std.specs.Prelude.{◌≡◌, ◌≤◌, ◌++◌, ◌∷◌, [], false, Some, IfOk, OnOk, fold, length, option_map, is_some};
 ghost use Rattle.std.specs.BTreeSet.{insert_key};
 ghost use Rattle.std.specs.List.{filter_map};
+ghost use Rattle.std.specs.Map.Iter.{deref};
 ghost use Rattle.tup_glob.specs.Part.{matched_part};
 ghost use Rattle.tup_lex.specs.declared.kind.ParseKind.TheVariants.{OpenBracket};
 ghost use Rattle.tup_path.specs.Order.{by_bytes};
@@ -95,36 +96,50 @@ fn matched_in<E: Env>(
         (asker (E.answers env.new) (E.stopped env.new) (E.asked env.new) log.new) result }
 {
     let told = names_at(alloc, env, log, dir)?;
-    let names = names_of_files(alloc, drafts, dir, told)?;
+    let names = matching_names(alloc, drafts, glob, dir, told)?;
     let inputs = matching(alloc, glob, dir, &names)?;
     Ok(Found::inputs_alone(alloc, inputs))
 }
 
-/// The names of the files in a folder, in byte order: those that were told, and the outputs of
-/// rules.
-fn names_of_files(
+/// The names that a glob matches of the files in a folder, in byte order: of those that were told, and of the outputs of rules. Only
+/// these are copied: a folder of many rules has many names for each of its globs.
+fn matching_names(
     alloc: Global,
     drafts: &Made,
+    glob: &Glob,
     dir: &Path,
     told: Texts,
 ) -> Result<BTreeSet<Text>, AllocError>
-    ensures { IfOk result (λ names.
-        names.keys ≡ specs.in_order (told ++ specs.names_among dir.now (made_by drafts.now))) }
+    ensures { IfOk result (λ names. names.keys ≡ specs.in_order (specs.wanted (Some glob.now)
+        (told ++ specs.names_among dir.now (made_by drafts.now)))) }
 {
-    let mut names = in_order(alloc, told)?;
-    add_made(&mut names, dir, drafts.as_slice())?;
+    let mut names = in_order(alloc, glob, told)?;
+    add_outputs(&mut names, Some(glob), dir, drafts.as_slice())?;
     Ok(names)
 }
 
-/// Names in byte order, each once.
-fn in_order(alloc: Global, told: Texts) -> Result<BTreeSet<Text>, AllocError>
-    ensures { IfOk result (λ names. names.keys ≡ specs.in_order told) }
+/// Those of names that a glob matches, in byte order, each once.
+fn in_order(alloc: Global, glob: &Glob, told: Texts) -> Result<BTreeSet<Text>, AllocError>
+    ensures { IfOk result (λ names.
+        names.keys ≡ specs.in_order (specs.wanted (Some glob.now) told)) }
 {
     let mut names = BTreeSet::new(alloc);
     for name in told.into_vec() {
-        names.insert(name)?;
+        add_told(&mut names, glob, name)?;
     }
     Ok(names)
+}
+
+/// Adds a name that was told, if a glob matches it.
+fn add_told(names: &mut BTreeSet<Text>, glob: &Glob, name: Text) -> Result<(), AllocError>
+    ensures { OnOk result (names.new.keys ≡ fold (insert_key by_bytes) names.old.keys
+        (specs.wanted (Some glob.now) (name ∷ []))) }
+{
+    if !glob.matches(&name) {
+        return Ok(());
+    }
+    names.insert(name)?;
+    Ok(())
 }
 
 /// Adds the names of those outputs of rules that stand in a folder.
@@ -132,31 +147,79 @@ pub fn add_made(names: &mut BTreeSet<Text>, dir: &Path, drafts: &[Draft]) -> Res
     ensures { OnOk result (names.new.keys ≡ fold (insert_key by_bytes) names.old.keys
         (specs.names_among dir.now (made_by drafts.now))) }
 {
+    add_outputs(names, None, dir, drafts)
+}
+
+/// Adds the names of those outputs of rules that stand in a folder and, if there is a glob, match it.
+fn add_outputs(
+    names: &mut BTreeSet<Text>,
+    glob: Option<&Glob>,
+    dir: &Path,
+    drafts: &[Draft],
+) -> Result<(), AllocError>
+    ensures { OnOk result (names.new.keys ≡ fold (insert_key by_bytes) names.old.keys
+        (specs.wanted (option_map deref glob.entry) (specs.names_among dir.now (made_by drafts.now)))) }
+{
     for draft in drafts {
-        add_names(names, dir, draft.outputs.as_slice())?;
+        add_names(names, glob, dir, draft.outputs.as_slice())?;
     }
     Ok(())
 }
 
-/// Adds the names of those paths that stand in a folder.
-fn add_names(names: &mut BTreeSet<Text>, dir: &Path, paths: &[Path]) -> Result<(), AllocError>
-    ensures { OnOk result (names.new.keys
-        ≡ fold (insert_key by_bytes) names.old.keys (specs.names_among dir.now paths.now)) }
+/// Adds the names of those paths that stand in a folder and, if there is a glob, match it.
+fn add_names(
+    names: &mut BTreeSet<Text>,
+    glob: Option<&Glob>,
+    dir: &Path,
+    paths: &[Path],
+) -> Result<(), AllocError>
+    ensures { OnOk result (names.new.keys ≡ fold (insert_key by_bytes) names.old.keys
+        (specs.wanted (option_map deref glob.entry) (specs.names_among dir.now paths.now))) }
 {
     for path in paths {
-        add_name(names, dir, path)?;
+        add_name(names, glob, dir, path)?;
     }
     Ok(())
 }
 
-/// Adds the name of a path, if it stands in a folder.
-fn add_name(names: &mut BTreeSet<Text>, dir: &Path, path: &Path) -> Result<(), AllocError>
-    ensures { OnOk result (names.new.keys
-        ≡ fold (insert_key by_bytes) names.old.keys (specs.names_among dir.now (path.now ∷ []))) }
+/// Adds the name of a path, if it stands in a folder and, if there is a glob, matches it.
+fn add_name(
+    names: &mut BTreeSet<Text>,
+    glob: Option<&Glob>,
+    dir: &Path,
+    path: &Path,
+) -> Result<(), AllocError>
+    ensures { OnOk result (names.new.keys ≡ fold (insert_key by_bytes) names.old.keys
+        (specs.wanted (option_map deref glob.entry) (specs.names_among dir.now (path.now ∷ [])))) }
 {
     match name_in(dir, path) {
-        Some(name) => put_name(names, name),
+        Some(name) => add_wanted(names, glob, name),
         None => Ok(()),
+    }
+}
+
+/// Adds a name, if it is wanted.
+fn add_wanted(
+    names: &mut BTreeSet<Text>,
+    glob: Option<&Glob>,
+    name: &Text,
+) -> Result<(), AllocError>
+    ensures { OnOk result (names.new.keys ≡ fold (insert_key by_bytes) names.old.keys
+        (specs.wanted (option_map deref glob.entry) (name.now ∷ []))) }
+{
+    if !is_wanted(glob, name) {
+        return Ok(());
+    }
+    put_name(names, name)
+}
+
+/// Whether a name is wanted: if there is a glob, it has to match.
+fn is_wanted(glob: Option<&Glob>, name: &Text) -> bool
+    ensures { result ≡ specs.is_wanted (option_map deref glob.entry) name.now }
+{
+    match glob {
+        Some(glob) => glob.matches(name),
+        None => true,
     }
 }
 
@@ -168,7 +231,7 @@ fn put_name(names: &mut BTreeSet<Text>, name: &Text) -> Result<(), AllocError>
     Ok(())
 }
 
-/// The files of a folder that match, as inputs.
+/// The files of these names in a folder that match, as inputs.
 fn matching(
     alloc: Global,
     glob: &Glob,
