@@ -2,8 +2,9 @@
 use Rattle.std.proofs.Common.{◌≡◌, ◌≢◌, ℕ, ◌+◌, ◌-◌, ◌≤◌, List, [], ◌∷◌, ◌++◌, length, take, drop, Some, None, refl, sym, ap, ◌∙◌, subst, take-append-drop, length-append, arith}
 use Rattle.std.proofs.Math.ListN.{drop_of_length-le}
 use Rattle.std.proofs.Math.Seq.{take-append_seam}
-use Rattle.std.proofs.lemmas.List.{drop-drop}
-use Rattle.std.proofs.lemmas.Str.{encodes-chars, encodes-append, encodes_same, chars-nil, IsCharBoundary-at_seam}
+use Rattle.std.proofs.Math.Utf8.{encode}
+use Rattle.std.proofs.lemmas.List.{append-nil, drop-drop}
+use Rattle.std.proofs.lemmas.Str.{chars_from_encodes, encodes-chars, encodes-append, encodes_same, chars-nil, IsCharBoundary-at_seam}
 use Rattle.std.specs.Str.{chars, IsUtf8, IsCharBoundary, encode_utf8_all}
 use Rattle.tup_glob.specs.declared.symbol.Symbol.{Symbol}
 use Rattle.tup_glob.specs.Fit.{fit}
@@ -15,6 +16,12 @@ chars_of_none (byte ∷ more) none = absurd cc
 
 pub chars_of_some : (text : List ℕ) → IsUtf8 text → length text ≢ 0 → chars text ≢ []
 chars_of_some text utf8 some none = some (ap length (sym (encodes-chars text utf8) ∙ ap encode_utf8_all none))
+
+-- a text of whose bytes the last are those of one character
+pub chars_to_char : (text front : List ℕ) (char : ℕ) → IsUtf8 text → IsUtf8 front → text ≡ front ++ encode char → chars text ≡ chars front ++ char ∷ []
+chars_to_char text front char text_utf8 front_utf8 cut =
+    sym (chars_from_encodes (chars front ++ char ∷ []) text text_utf8
+    (encodes-append (chars front) (char ∷ []) ∙ ap (λ b. b ++ encode_utf8_all (char ∷ [])) (encodes-chars front front_utf8) ∙ ap (λ b. front ++ b) (append-nil (encode char)) ∙ sym cut))
 
 -- ---- behind all symbols
 fit_none : (name : List ℕ) → name ≢ [] → fit [] name ≡ None

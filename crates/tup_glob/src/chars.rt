@@ -1,5 +1,5 @@
-//! Texts cut behind their first character.
-ghost use Rattle.std.specs.Prelude.{◌≡◌, [], ◌∷◌, false, MatchOption};
+//! Texts cut behind their first character, or before their last one.
+ghost use Rattle.std.specs.Prelude.{◌≡◌, [], ◌∷◌, ◌++◌, false, MatchOption};
 ghost use Rattle.std.specs.Str.{chars};
 ghost use Rattle.tup_lex.specs.Word.{begins_with};
 
@@ -11,6 +11,16 @@ pub(crate) fn first_char(text: &str) -> Option<(char, &str)>
     let mut rest = text.chars();
     let first = rest.next()?;
     Some((first, rest.as_str()))
+}
+
+/// The last character of a text, and what stands before it.
+pub(crate) fn last_char(text: &str) -> Option<(&str, char)>
+    ensures { MatchOption result (chars text.now ≡ [])
+        (λ last. chars text.now ≡ chars last.0.now ++ last.1 ∷ []) }
+{
+    let mut front = text.chars();
+    let last = front.next_back()?;
+    Some((front.as_str(), last))
 }
 
 /// What follows a character in a text that begins with it.

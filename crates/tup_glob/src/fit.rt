@@ -10,7 +10,7 @@ ghost use Rattle.tup_glob.specs.Fit.{fit as fitted, behind_run as others_of, fir
 ghost use Rattle.tup_glob.specs.Part.{part_of};
 ghost use Rattle.tup_glob.specs.Symbol.{is_literal};
 
-use crate::chars::{behind_char, first_char};
+use crate::chars::{behind_char, first_char, last_char};
 use crate::symbol::Symbol;
 
 /// What the symbols before the first run leave of a name, if they fit at its front; without a run they
@@ -77,10 +77,27 @@ fn others_match(mut symbols: &[Symbol], mut left: &str) -> bool
     true
 }
 
-/// Whether the symbols match the whole name.
+/// Whether the last symbol may stand for the last character of a name. Where it may not, the symbols don't match the name.
+fn may_end(symbols: &[Symbol], name: &str) -> bool
+    ensures { result ≡ false → matched symbols.now (chars name.now) ≡ false }
+{
+    let Some(symbol) = symbols.last() else {
+        return true;
+    };
+    let Some((_, char)) = last_char(name) else {
+        return true;
+    };
+    symbol.accepts(char)
+}
+
+/// Whether the symbols match the whole name. Most names in a folder end otherwise than a pattern such as `*.c`, so the end is looked
+/// at first.
 pub(crate) fn matches(symbols: &[Symbol], name: &str) -> bool
     ensures { result ≡ matched symbols.now (chars name.now) }
 {
+    if !may_end(symbols, name) {
+        return false;
+    }
     match fit(symbols, name) {
         Some(left) => others_match(symbols, left),
         None => false,
