@@ -20,11 +20,10 @@ IsFailed says (System error) = ⊥
 abbrev pub IsFailedOrMemory : (Refused → Type 0) → Failure → Type 0
 IsFailedOrMemory says failure = (failure ≡ Memory) ⊎ IsFailed says failure
 
--- what the system gave is given on, and what it refused is told with what was asked and the place
-abbrev pub IsTold : {T : Type 0} → Operation → List ℕ → Result T Error → Result T Failure → Type 0
-IsTold operation place (Ok value) result = result ≡ Ok value
-IsTold operation place (Err error) (Ok value) = ⊥
-IsTold operation place (Err error) (Err failure) = IsFailed (disk.IsFailure operation place error) failure
+-- what a refusal comes to
+abbrev pub failure_of : Refused → Failure
+failure_of refused.Memory = Memory
+failure_of (refused.Failed failure) = Failed failure
 
 -- the place of a file of the stage
 abbrev pub staged : List ℕ → List ℕ → List ℕ

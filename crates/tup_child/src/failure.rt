@@ -2,6 +2,7 @@
 use std::alloc::{AllocError, AllocFailed};
 use std::io;
 use thiserror::Error;
+use tup_disk::Refused;
 
 /// Why a command has no log.
 #[derive(Debug, Drop, Error)]
@@ -45,5 +46,19 @@ impl<T: Drop> From<AllocFailed<T>> for Failure {
 impl From<io::Error> for Failure {
     fn from(error: io::Error) -> Failure {
         Failure::System(error)
+    }
+}
+
+impl From<Refused> for Failure {
+    ghost use Rattle.std.specs.Prelude.{◌≡◌};
+    ghost use Rattle.tup_child.specs.Cause.{failure_of};
+
+    ghost from_gives = { λ refused failure. failure ≡ failure_of refused };
+
+    fn from(refused: Refused) -> Failure {
+        match refused {
+            Refused::Memory => Failure::Memory,
+            Refused::Failed(failure) => Failure::Failed(failure),
+        }
     }
 }

@@ -5,11 +5,9 @@
 #![tactic(auto)]
 
 mod failure;
-mod standing;
 mod tree;
 mod words;
 
 pub use failure::Failure;
-pub use standing::Standing;
 pub use tree::{Tree, path_of};
 pub use words::{Words, read_words};

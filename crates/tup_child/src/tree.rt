@@ -1,7 +1,7 @@
 //! The files of the project as they are before the command, and the stage.
 ghost use Rattle.std.specs.Prelude.{◌≡◌, ◌⊎◌, [], IfOk, IfErr, IsErr, Ok, codes, string_bytes};
 ghost use Rattle.tup_child.specs.Cause as cause;
-ghost use Rattle.tup_child.specs.Cause.{IsFailed, IsFailedOrMemory, IsNoList, IsTold, IsUnfound, IsUnresolved};
+ghost use Rattle.tup_child.specs.Cause.{IsFailed, IsFailedOrMemory, IsNoList, IsUnfound, IsUnresolved};
 ghost use Rattle.tup_child.specs.declared.failure.Failure.TheVariants.{Memory};
 ghost use Rattle.tup_disk.specs.Place.{place_of};
 ghost use Rattle.tup_disk.specs.Told.{IsBarred, IsNamed};
@@ -9,13 +9,12 @@ ghost use Rattle.tup_disk.specs.declared.failure.Operation.TheVariants as operat
 ghost use Rattle.tup_path.specs.Resolve.{resolve};
 
 use crate::failure::Failure;
-use crate::standing::{Standing, look};
 use std::alloc::Global;
 use std::fs::File;
 use std::io::{ErrorKind, Read};
 use std::rt::Files;
 use std::{fs, io, str};
-use tup_disk::{Operation, place_below};
+use tup_disk::{Operation, Standing, place_below, standing_at, told};
 use tup_path::{Path, PathFault, Text};
 use tup_proc::{LogLine, write_log};
 
@@ -79,7 +78,7 @@ impl<R: Files<File = File> + Clone + Drop> Tree<R> {
             (IsFailedOrMemory (IsUnfound (place_of self.now.root path.now))) }
     {
         match self.before(path)? {
-            Standing::File => Ok(Some(self.source_content(path)?)),
+            Standing::File { .. } => Ok(Some(self.source_content(path)?)),
             Standing::Link => self.link_text(path),
             Standing::Nothing | Standing::Folder | Standing::Other => Ok(None),
         }
@@ -104,7 +103,10 @@ impl<R: Files<File = File> + Clone + Drop> Tree<R> {
         let runtime = (self.rt.clone()?, self.alloc);
         match fs::read_link(&runtime, place) {
             Err(e) if e.kind() == ErrorKind::InvalidFilename => Ok(None),
-            found => Ok(Some(self.told(Operation::Look, place, found)?.into_string())),
+            found => {
+                let found = told(self.alloc, Operation::Look, place, found)?;
+                Ok(Some(found.into_string()))
+            }
         }
     }
 
@@ -112,7 +114,7 @@ impl<R: Files<File = File> + Clone + Drop> Tree<R> {
     pub fn at(&self, place: &str) -> Result<Standing, Failure>
         ensures cause { IfErr result (IsFailed (IsBarred operation.Look place.now)) }
     {
-        self.told(Operation::Look, place, look(&self.rt, place))
+        Ok(standing_at(&self.rt, self.alloc, place)?)
     }
 
     /// What the file at a place holds.
@@ -121,7 +123,7 @@ impl<R: Files<File = File> + Clone + Drop> Tree<R> {
     {
         let mut bytes = Vec::new(self.alloc);
         let done = self.read_into(&mut bytes, place);
-        self.told(Operation::Read, place, done)?;
+        told(self.alloc, Operation::Read, place, done)?;
         Ok(bytes)
     }
 
@@ -185,7 +187,7 @@ impl<R: Files<File = File> + Clone + Drop> Tree<R> {
     {
         let place = self.staged(name)?;
         let done = fs::write(&self.rt, place.as_str(), content);
-        self.told(Operation::Write, place.as_str(), done)
+        Ok(told(self.alloc, Operation::Write, place.as_str(), done)?)
     }
 
     /// Writes the log into the stage.
@@ -196,23 +198,6 @@ impl<R: Files<File = File> + Clone + Drop> Tree<R> {
         match write_log(self.alloc, log) {
             Ok(bytes) => self.write_staged("log", bytes.as_slice()),
             Err(_) => Err(Failure::Memory),
-        }
-    }
-
-    /// An answer of the system, with what was asked and the place if it is a failure.
-    fn told<T>(
-        &self,
-        operation: Operation,
-        place: &str,
-        answer: io::Result<T>,
-    ) -> Result<T, Failure>
-        ensures { IsTold operation place.now answer result }
-    {
-        match answer {
-            Ok(value) => Ok(value),
-            Err(error) => Err(Failure::Failed(tup_disk::Failure::new(
-                self.alloc, operation, place, error,
-            ))),
         }
     }
 }

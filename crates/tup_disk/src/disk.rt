@@ -3,7 +3,7 @@ ghost use Rattle.std.specs.Prelude.{◌≡◌, ◌⊎◌, ◌-◌, length, take,
 ghost use Rattle.tup_disk.specs.Place.{place_of, places_to};
 ghost use Rattle.tup_disk.specs.Told.{IsTold, IsFailure, IsNamed, IsOwn};
 
-use crate::failure::{Failure, Operation, Refused};
+use crate::failure::{Failure, Operation, Refused, told};
 use std::alloc::{AllocError, Global};
 use std::fs::{File, TryLockError};
 use std::io;
@@ -102,10 +102,7 @@ impl<R: Files<File = File> + Clone + Drop> Disk<R> {
     ) -> Result<T, Refused>
         ensures { IsTold operation place.now answer result }
     {
-        match answer {
-            Ok(value) => Ok(value),
-            Err(error) => Err(self.refused(operation, place, error)),
-        }
+        told(self.alloc, operation, place, answer)
     }
 
     /// A failure at a place; where there is no memory for the place, it isn't named.

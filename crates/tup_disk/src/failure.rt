@@ -1,4 +1,6 @@
 //! What the system refused, and where.
+ghost use Rattle.tup_disk.specs.Told.{IsTold};
+
 use std::alloc::{AllocError, AllocFailed, Global};
 use std::{fmt, io};
 use thiserror::Error;
@@ -18,6 +20,7 @@ pub enum Operation {
     Sync,
     Rename,
     Remove,
+    Mode,
 }
 
 impl fmt::Display for Operation {
@@ -35,6 +38,7 @@ impl fmt::Display for Operation {
             Operation::Sync => "sync",
             Operation::Rename => "rename",
             Operation::Remove => "remove",
+            Operation::Mode => "set the mode of",
         })
     }
 }
@@ -95,5 +99,23 @@ impl<T: Drop> From<AllocFailed<T>> for Refused {
 
     fn from(_: AllocFailed<T>) -> Refused {
         Refused::Memory
+    }
+}
+
+/// An answer of the system, with what was asked and the place if it is a failure.
+pub fn told<T>(
+    alloc: Global,
+    operation: Operation,
+    place: &str,
+    answer: io::Result<T>,
+) -> Result<T, Refused>
+    ensures { IsTold operation place.now answer result }
+{
+    match answer {
+        Ok(value) => Ok(value),
+        Err(error) => {
+            let failure = Failure::new(alloc, operation, place, error);
+            Err(Refused::Failed(failure))
+        }
     }
 }

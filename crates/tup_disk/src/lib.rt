@@ -13,7 +13,7 @@ mod standing;
 mod touched;
 
 pub use disk::{Disk, Syncs, place_below};
-pub use failure::{Failure, Operation, Refused};
+pub use failure::{Failure, Operation, Refused, told};
 pub use listing::{Listed, Listing};
-pub use standing::{Inode, Seen, Standing, is_absence};
+pub use standing::{Inode, Seen, Standing, standing_at};
 pub use touched::Touched;

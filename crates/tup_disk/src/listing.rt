@@ -8,7 +8,7 @@ ghost use Rattle.tup_path.specs.Order.{by_names};
 
 use crate::disk::Disk;
 use crate::failure::{Operation, Refused};
-use crate::standing::{Inode, Seen, Standing};
+use crate::standing::{Inode, Seen, Standing, look};
 use std::alloc::Global;
 use std::collections::VecDeque;
 use std::fs::{DirEntry, File};
@@ -150,7 +150,7 @@ impl<R: Files<File = File> + Clone + Drop> Disk<R> {
     fn found_at(&self, place: &str) -> Result<Standing, Refused>
         ensures cause { IfErr result (IsNamed Operation.Look place.now) }
     {
-        match self.look(place) {
+        match look(&self.rt, place) {
             Err(e) if e.kind() == ErrorKind::NotFound => Ok(Standing::Nothing),
             found => self.at(Operation::Look, place, found),
         }

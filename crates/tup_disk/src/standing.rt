@@ -9,7 +9,7 @@ ghost use Rattle.tup_disk.specs.declared.failure.Refused.TheVariants.{Memory};
 ghost use Rattle.tup_disk.specs.declared.standing.Standing.TheVariants.{Folder};
 
 use crate::disk::{Disk, Syncs};
-use crate::failure::{Operation, Refused};
+use crate::failure::{Operation, Refused, told};
 use std::alloc::Global;
 use std::collections::BTreeSet;
 use std::fs::{File, Metadata};
@@ -79,20 +79,11 @@ impl Seen {
 }
 
 impl<R: Files<File = File> + Clone + Drop> Disk<R> {
-    /// What stands at a place; no link is followed at its end. Where a name is longer than a name
-    /// may be nothing stands.
+    /// What stands at a place of these files.
     pub fn standing(&self, place: &str) -> Result<Standing, Refused>
         ensures cause { IfErr result (IsBarred Operation.Look place.now) }
     {
-        match self.look(place) {
-            Err(e) if is_absence(e.kind()) => Ok(Standing::Nothing),
-            found => self.at(Operation::Look, place, found),
-        }
-    }
-
-    /// What stands at a place; it is a failure that nothing does.
-    pub(crate) fn look(&self, place: &str) -> io::Result<Standing> {
-        Ok(kind_of(&fs::symlink_metadata(&self.rt, place)?))
+        standing_at(&self.rt, self.alloc, place)
     }
 
     /// Opens the file that was listed at a place, and tells its length. `None` where it isn't there any more.
@@ -262,6 +253,21 @@ impl<R: Files<File = File> + Clone + Drop> Disk<R> {
     }
 }
 
+/// What stands at a place; no link is followed at its end. Where a name is longer than a name may be nothing stands.
+pub fn standing_at<R: Files>(rt: &R, alloc: Global, place: &str) -> Result<Standing, Refused>
+    ensures cause { IfErr result (IsBarred Operation.Look place.now) }
+{
+    match look(rt, place) {
+        Err(e) if is_absence(e.kind()) => Ok(Standing::Nothing),
+        found => told(alloc, Operation::Look, place, found),
+    }
+}
+
+/// What stands at a place; it is a failure that nothing does.
+pub(crate) fn look<R: Files>(rt: &R, place: &str) -> io::Result<Standing> {
+    Ok(kind_of(&fs::symlink_metadata(rt, place)?))
+}
+
 fn kind_of(found: &Metadata) -> Standing {
     if found.is_file() {
         Standing::File {
@@ -288,7 +294,7 @@ fn inode_of(found: &Metadata) -> Inode {
 
 /// Whether an error says that nothing stands at the place, as where its name is longer than a name
 /// may be.
-pub fn is_absence(kind: ErrorKind) -> bool
+fn is_absence(kind: ErrorKind) -> bool
     ensures { IsTrue result ↔ SaysAbsence kind }
 {
     matches!(

@@ -12,6 +12,7 @@ use std::process::Processes;
 use std::rt::Files;
 use std::{fs, str};
 use tup_child::{Failure, Tree, Words, path_of};
+use tup_disk::{Operation, told};
 use tup_path::{Items, Path, Text};
 use tup_proc::LogLine;
 use tup_site::MAX_FILE_BYTES;
@@ -46,12 +47,21 @@ impl<R: Files<File = File> + Processes + Eprint + Clone + Drop> Job<R> {
     /// A folder as a path without links.
     fn real(&self, place: &str) -> Result<Text, Failure> {
         let runtime = (self.rt.clone()?, self.alloc);
-        Ok(Text::from_string(fs::canonicalize(&runtime, place)?.into_string()))
+        let found = fs::canonicalize(&runtime, place);
+        let found = told(self.alloc, Operation::Look, place, found)?;
+        Ok(Text::from_string(found.into_string()))
     }
 
     /// The folder of the stage, open. The copy has a number that no standard stream has.
     fn held_stage(&self) -> Result<File, Failure> {
-        Ok(File::open(&self.rt, self.words.stage.as_str())?.try_clone()?)
+        let place = self.words.stage.as_str();
+        let stage = told(
+            self.alloc,
+            Operation::Open,
+            place,
+            File::open(&self.rt, place),
+        )?;
+        Ok(told(self.alloc, Operation::Open, place, stage.try_clone())?)
     }
 
     /// The project below a root, with the stage. Its places lead through the descriptor of its folder: so they lead into this

@@ -10,6 +10,7 @@ use std::process::{Processes, Stdio};
 use std::rt::Files;
 use std::{fs, io};
 use tup_child::{Failure, Tree};
+use tup_disk::{Operation, told};
 
 /// How many entries are listed at most.
 const MAX_ENTRIES: u32 = u32::MAX;
@@ -82,12 +83,14 @@ impl<'a, R: Files<File = File> + Clone + Drop> Descent<'a, R> {
     fn look(&mut self, name: &str) -> Result<(), Failure> {
         let place = self.place(name)?;
         match fs::symlink_metadata(&self.tree.rt, place.as_str()) {
-            Ok(found) => self.take(name, place.as_str(), &found),
             Err(e) if e.kind() == ErrorKind::InvalidFilename => {
                 self.is_whole = false;
                 Ok(())
             }
-            Err(e) => Err(Failure::System(e)),
+            found => {
+                let found = told(self.tree.alloc, Operation::Look, place.as_str(), found)?;
+                self.take(name, place.as_str(), &found)
+            }
         }
     }
 
@@ -110,10 +113,11 @@ impl<'a, R: Files<File = File> + Clone + Drop> Descent<'a, R> {
     /// Gives the owner these rights to a place, if they are missing.
     fn open(&self, place: &str, found: &Metadata, rights: u32) -> Result<(), Failure> {
         let mode = found.permissions().mode();
-        if mode & rights != rights {
-            fs::set_permissions(&self.tree.rt, place, Permissions::from_mode(mode | rights))?;
+        if mode & rights == rights {
+            return Ok(());
         }
-        Ok(())
+        let set = fs::set_permissions(&self.tree.rt, place, Permissions::from_mode(mode | rights));
+        Ok(told(self.tree.alloc, Operation::Mode, place, set)?)
     }
 
     /// Puts the entries of a folder before the rest.
@@ -128,23 +132,27 @@ impl<'a, R: Files<File = File> + Clone + Drop> Descent<'a, R> {
     fn names(&mut self, folder: &str, place: &str) -> Result<Vec<String>, Failure> {
         let runtime = (self.tree.rt.clone()?, self.tree.alloc);
         let mut names = Vec::new(self.tree.alloc);
-        for entry in fs::read_dir(&runtime, place)? {
-            self.add_name(&mut names, folder, entry)?;
+        let list = fs::read_dir(&runtime, place);
+        for entry in told(self.tree.alloc, Operation::List, place, list)? {
+            self.add_name(&mut names, folder, place, entry)?;
         }
         Ok(names)
     }
 
-    /// Adds the name of an entry of a folder.
+    /// Adds the name of an entry of a folder, which stands at this place.
     fn add_name(
         &mut self,
         names: &mut Vec<String>,
         folder: &str,
+        place: &str,
         entry: io::Result<DirEntry<(R, Global)>>,
     ) -> Result<(), Failure> {
         match entry {
-            Ok(entry) => names.push(joined(self.tree.alloc, folder, entry.file_name())?)?,
             Err(e) if e.kind() == ErrorKind::InvalidFilename => self.is_whole = false,
-            Err(e) => return Err(Failure::System(e)),
+            entry => {
+                let entry = told(self.tree.alloc, Operation::List, place, entry)?;
+                names.push(joined(self.tree.alloc, folder, entry.file_name())?)?;
+            }
         }
         Ok(())
     }

@@ -2,7 +2,8 @@
 use std::alloc::Global;
 use std::fs::File;
 use std::rt::Files;
-use tup_child::{Failure, Standing, Tree};
+use tup_child::{Failure, Tree};
+use tup_disk::Standing;
 use tup_path::{Items, Path, Text};
 use tup_proc::LogLine;
 use tup_stamp::stamp_of;

@@ -5,7 +5,8 @@ use std::alloc::Global;
 use std::fs::File;
 use std::rt::Files;
 use std::{fs, str};
-use tup_child::{Failure, Standing, Tree};
+use tup_child::{Failure, Tree};
+use tup_disk::Standing;
 use tup_path::{Bytes, Path, Text};
 use tup_strace::{Account, Act, Step};
 
@@ -82,7 +83,15 @@ impl<R: Files<File = File> + Clone + Drop> Seen<'_, R> {
             return Ok(None);
         };
         match self.unseen(alloc, place)? {
-            Some(name) if self.tree.at(place)? == Standing::File => Ok(Some(name)),
+            Some(name) => self.if_file(place, name),
+            None => Ok(None),
+        }
+    }
+
+    /// A name, where a file is at its place.
+    fn if_file(&self, place: &str, name: Text) -> Result<Option<Text>, Failure> {
+        match self.tree.at(place)? {
+            Standing::File { .. } => Ok(Some(name)),
             _ => Ok(None),
         }
     }
@@ -164,7 +173,7 @@ impl<R: Files<File = File> + Clone + Drop> Seen<'_, R> {
     fn interpreter(&self, alloc: Global, path: &Path) -> Result<Option<Vec<u8>>, Failure> {
         let place = self.now(path)?;
         match self.tree.at(place.as_str())? {
-            Standing::File => self.interpreter_in(alloc, place.as_str()),
+            Standing::File { .. } => self.interpreter_in(alloc, place.as_str()),
             _ => Ok(None),
         }
     }

@@ -10,31 +10,24 @@ use std::os::unix::fs::{FileTypeExt, MetadataExt, PermissionsExt};
 use std::process::Processes;
 use std::rt::Files;
 use tup_child::{Failure, Tree};
+use tup_disk::{Operation, told};
 use tup_path::{Path, Text};
 
-/// Makes the stage ready for a command.
+/// Makes the stage ready for a command: makes its folders, and hides the program's own folder and the rule's outputs from before.
 pub(crate) fn prepare<R: Files<File = File> + Processes + Clone + Drop>(
     tree: &Tree<R>,
 ) -> Result<(), Failure> {
-    match make(tree) {
-        Err(Failure::Failed(_) | Failure::System(_)) => Err(refused()),
-        made => made,
-    }
-}
-
-/// The failure of a stage that can't be made.
-fn refused() -> Failure {
-    Failure::Because("the stage can't be made")
-}
-
-/// Makes the folders, and hides the program's own folder and the rule's outputs from before.
-fn make<R: Files<File = File> + Processes + Clone + Drop>(tree: &Tree<R>) -> Result<(), Failure> {
     make_folders(tree)?;
     make_mark(tree)?;
     for path in &tree.own {
         hide(tree, path)?;
     }
     Ok(())
+}
+
+/// The failure of a stage that can't be made.
+fn refused() -> Failure {
+    Failure::Because("the stage can't be made")
 }
 
 /// Makes the two folders. Where a stopped command left them, a shell removes them first.
@@ -123,8 +116,8 @@ fn hide<R: Files<File = File> + Clone + Drop>(tree: &Tree<R>, path: &Path) -> Re
 fn link<R: Files<File = File> + Clone + Drop>(tree: &Tree<R>, path: &Path) -> Result<(), Failure> {
     let mark = mark(tree)?;
     let place = written(tree, path)?;
-    fs::hard_link(&tree.rt, mark.as_str(), place.as_str())?;
-    Ok(())
+    let linked = fs::hard_link(&tree.rt, mark.as_str(), place.as_str());
+    Ok(told(tree.alloc, Operation::Make, place.as_str(), linked)?)
 }
 
 /// Makes the folders above a path, as they are in the project.
@@ -168,13 +161,23 @@ fn make_as<R: Files<File = File> + Clone + Drop>(
 ) -> Result<(), Failure> {
     match fs::create_dir(&tree.rt, place) {
         Err(e) if e.kind() == ErrorKind::AlreadyExists => Ok(()),
-        Err(e) => Err(Failure::System(e)),
-        Ok(()) => {
-            let permissions = fs::metadata(&tree.rt, source)?.permissions();
-            fs::set_permissions(&tree.rt, place, permissions)?;
-            Ok(())
+        made => {
+            told(tree.alloc, Operation::Make, place, made)?;
+            give_mode(tree, source, place)
         }
     }
+}
+
+/// Gives a folder the mode of a source.
+fn give_mode<R: Files<File = File> + Clone + Drop>(
+    tree: &Tree<R>,
+    source: &str,
+    place: &str,
+) -> Result<(), Failure> {
+    let found = fs::metadata(&tree.rt, source);
+    let mode = told(tree.alloc, Operation::Look, source, found)?.permissions();
+    let set = fs::set_permissions(&tree.rt, place, mode);
+    Ok(told(tree.alloc, Operation::Mode, place, set)?)
 }
 
 /// Gives the owner access to the folders that the overlay works in. The kernel makes them without permissions, so that only root

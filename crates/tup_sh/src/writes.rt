@@ -6,7 +6,8 @@ use std::alloc::Global;
 use std::fs;
 use std::fs::File;
 use std::rt::Files;
-use tup_child::{Failure, Standing, Tree};
+use tup_child::{Failure, Tree};
+use tup_disk::{Operation, Standing, told};
 use tup_path::{Items, Path, Text};
 use tup_proc::LogLine;
 use tup_site::MAX_FILE_BYTES;
@@ -136,7 +137,7 @@ impl<R: Files<File = File> + Clone + Drop> Writes<'_, R> {
     /// A removal, where a file or a link was.
     fn gone(&self, path: &Path) -> Result<Verdict, Failure> {
         match self.tree.before(path)? {
-            Standing::File | Standing::Link | Standing::Other => Ok(Verdict::Removed),
+            Standing::File { .. } | Standing::Link | Standing::Other => Ok(Verdict::Removed),
             Standing::Nothing | Standing::Folder => Ok(Verdict::Nothing),
         }
     }
@@ -152,9 +153,9 @@ impl<R: Files<File = File> + Clone + Drop> Writes<'_, R> {
 
     /// Whether what was written at a path is what the file there held before.
     fn is_as_before(&self, path: &Path) -> Result<bool, Failure> {
-        if self.tree.before(path)? != Standing::File {
+        let Standing::File { .. } = self.tree.before(path)? else {
             return Ok(false);
-        }
+        };
         let before = self.tree.source_content(path)?;
         Ok(before == written_content(self.tree, path)?)
     }
@@ -169,7 +170,8 @@ impl<R: Files<File = File> + Clone + Drop> Writes<'_, R> {
 
     /// Notes a file that is too large to be read.
     fn measure(&mut self, alloc: Global, path: &Path, place: &str) -> Result<(), Failure> {
-        let len = fs::metadata(&self.tree.rt, place)?.len();
+        let found = fs::metadata(&self.tree.rt, place);
+        let len = told(alloc, Operation::Look, place, found)?.len();
         if len <= MAX_FILE_BYTES {
             return Ok(());
         }
@@ -185,14 +187,15 @@ impl<R: Files<File = File> + Clone + Drop> Writes<'_, R> {
     /// Takes what stands at a place as the next file.
     fn take(&self, alloc: Global, from: &str) -> Result<(), Failure> {
         let to = self.next(alloc)?;
-        fs::rename(&self.tree.rt, from, to.as_str())?;
-        Ok(())
+        let renamed = fs::rename(&self.tree.rt, from, to.as_str());
+        Ok(told(alloc, Operation::Rename, from, renamed)?)
     }
 
     /// Keeps that a source was removed, as an empty file.
     fn removed(&mut self, alloc: Global, path: &Path) -> Result<(), Failure> {
         let to = self.next(alloc)?;
-        fs::write(&self.tree.rt, to.as_str(), b"".as_slice())?;
+        let written = fs::write(&self.tree.rt, to.as_str(), b"".as_slice());
+        told(alloc, Operation::Write, to.as_str(), written)?;
         self.note(alloc, path)
     }
 
