@@ -1,7 +1,11 @@
 -- How a beginning ends that came out so: what is promised of it holds of the status that tells of it.
-use Rattle.std.proofs.Common.{◌≡◌, ◌⊎◌, ⊎_elim, inl, inr, ℕ, List, [], ◌∷◌, ◌++◌, Result, Ok, Err, refl, sym, subst, ◌∙◌, arith}
+use Rattle.std.proofs.Common.{◌≡◌, ◌⊎◌, ⊎_elim, inl, inr, ℕ, ◌≤◌, List, [], ◌∷◌, ◌++◌, Result, Ok, Err, refl, sym, ap, subst, ◌∙◌, arith}
 use Rattle.tup_path.specs.Count.{Rose}
+use Rattle.tup_site.specs.Crash.{GoesOn, NoStep, PinsStore, PinsTree}
 use Rattle.tup_site.specs.World.{World}
+use Rattle.tup_site.specs.declared.site.Site.{Ghosts as Site}
+use Rattle.tup_site.proofs.Moments.{now_or_step}
+use Rattle.tup_runner.specs.Next.{Next}
 use Rattle.tup_table.specs.Store.{header}
 use Rattle.tup_table.specs.declared.fault.TableFault.{TableFault}
 use Rattle.tup_table.specs.declared.fault.TableFault.TheVariants as table
@@ -18,6 +22,9 @@ use Rattle.tup_ledger.specs.Owned.{owned_in}
 use Rattle.tup_ledger.specs.declared.beginning.Begun.{Begun}
 use Rattle.tup_ledger.specs.declared.beginning.Begun.TheVariants.{Made, WasThere}
 use Rattle.tup_ledger.proofs.Listing.{nothing_lists}
+use Rattle.tup_law_site.specs.Over.{IsKeptNow, LeftNow}
+use Rattle.tup_law_phases.specs.Language.{tupfiles}
+use Rattle.tup_law_phases.proofs.Beginning.{begun_kept}
 use Rattle.tup_top.specs.Lines.{begun_line}
 use Rattle.tup_top.specs.Printed.{IsDone, Ends, Prints, PrintsBegun}
 use Rattle.tup_top.specs.Promise.{Counts, HasBegunCause, NothingFailed, IsDoneOrMemory}
@@ -122,7 +129,21 @@ pub made_there : (v w : World) (begun : Begun) → v.store ≡ [] → Begins v w
 made_there v w Made empty begins = begins.1
 made_there v w WasThere empty begins = absurd (no_store v.store begins.0 empty begins.1)
 
--- and where nothing failed it is done, but for want of memory
+-- and it is kept once its files are settled
+module _ {S : Type 0} (site : Site S) (earlier : (at : S) (t u : ℕ) (w : World) → t ≤ u → site.left_since at u w → site.left_since at t w) (old new : S) (next : Next) where
+  pub settled_keeps : site.world new ≡ site.world old → GoesOn site.moment site.left_since old new NoStep → PinsStore (LeftNow site old) (site.world old) → PinsTree (LeftNow site new) (site.world old) → (site.world old).store ≡ header ++ 0 ∷ []
+      → IsKeptNow site next tupfiles (site.known new) new
+  settled_keeps same on store_stays tree_stays first = begun_kept next (site.known new) (site.world new) (LeftNow site new) (ap (λ (w : World). w.store) same ∙ first) still
+    where
+      still : (w : World) → LeftNow site new w → w ≡ site.world new
+      still w left =
+          let before : LeftNow site old w = ⊎_elim (λ was. was) (λ from. absurd from.2) (now_or_step site.moment site.left_since old new NoStep earlier on w left) in
+          let files : w.tree ≡ (site.world old).tree = tree_stays w left in
+          let store : w.store ≡ (site.world old).store = store_stays w before in
+          let is : w ≡ site.world old = λ i. record { tree = files i; store = store i } in
+          is ∙ sym same
+
+-- where nothing failed, a project that begins is done, but for want of memory
 pub initializes_so : (old new : World) (before now : Counts) (status : Status) → IfBegan status (Begins old new) → HasBegunCause before.site now.site before.sink now.sink status → old.store ≡ [] → NothingFailed before now → IsDoneOrMemory status
 initializes_so old new before now (Done read ran removed) begins counted empty fine = tt
 initializes_so old new before now (Command rule status) begins counted empty fine = absurd counted

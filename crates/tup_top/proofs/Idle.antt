@@ -5,6 +5,7 @@ use Rattle.tup_site.specs.World.{World}
 use Rattle.tup_site.specs.declared.fault.SiteFailed.TheVariants.{Memory as NoMemory}
 use Rattle.tup_rule.specs.declared.rule.RuleName.{RuleName}
 use Rattle.tup_runner.specs.Next.{Next}
+use Rattle.tup_mini.specs.Means.{mini_next}
 use Rattle.tup_graph.specs.declared.fault.GraphFault.{GraphFault}
 use Rattle.tup_graph.specs.declared.fault.GraphFault.TheVariants as graph
 use Rattle.tup_ledger.specs.declared.beginning.Begun.{Begun}
@@ -16,12 +17,15 @@ use Rattle.tup_promise.specs.declared.stop.Stop.TheVariants.{Outside}
 use Rattle.tup_compare.proofs.Held.{holds_itself}
 use Rattle.tup_top.specs.Lines.{last_line, begun_line, compared_line}
 use Rattle.tup_top.specs.Order.{Wanted}
-use Rattle.tup_top.specs.Printed.{Printed, PrintsBegun, PrintsUpdate, demo_world, hears_none}
+use Rattle.tup_top.specs.Demo.{demo_world}
+use Rattle.tup_top.specs.Printed.{Printed, PrintsBegun, PrintsUpdate, hears_none}
 use Rattle.tup_top.specs.Promise.{Counts, FindsOut, ForUpdate, ForInit, ForTodo, ForVerify, HasPlainCause, Logs, NothingDone, OpensStore}
+use Rattle.tup_top.specs.Truth.{IsTrueOver}
 use Rattle.tup_top.specs.declared.order.Order.TheVariants.{Init, Upd, Todo, Verify, Demo}
 use Rattle.tup_top.specs.declared.status.Status.{Status}
 use Rattle.tup_top.specs.declared.status.Status.TheVariants.{Usage, Memory}
 use Rattle.tup_top.proofs.Causes.{logs_nothing, nothing_logged, opens_so, prints_nothing, prints_no_update, told_nothing}
+use Rattle.tup_top.proofs.True.{nothing_over}
 
 -- nothing was done
 pub idle : (wanted : Wanted) (w : World) → NothingDone wanted w w
@@ -107,7 +111,8 @@ memory_prints jobs site runner kept says unsaid holds so hears unheard (Ok Verif
   ends = inl refl;
   prints = prints_nothing Memory (compared_line Memory) count count held;
 }
-memory_prints jobs site runner kept says unsaid holds so hears unheard (Ok Demo) next w ran count held none = ([], demo_world, prints_no_update 1 true false (λ log chains. chains ≡ []) refl (λ log stopped. ⊤) tt hears_none (inl refl) demo_world count count held)
+memory_prints jobs site runner kept says unsaid holds so hears unheard (Ok Demo) next w ran count held none =
+    ([], demo_world, λ other. absurd (other refl), prints_no_update 1 true false (λ log chains. chains ≡ []) refl (IsTrueOver mini_next demo_world demo_world) (nothing_over mini_next demo_world demo_world) hears_none (inl refl) demo_world count count held)
 memory_prints jobs site runner kept says unsaid holds so hears unheard (Err place) next w ran count held none = prints_nothing (Usage place) (last_line (Usage place)) count count held
 
 -- what its log says

@@ -1,7 +1,7 @@
 -- How an update ends whose reporters were told before its lines were printed.
 use Rattle.std.proofs.Common.{◌≡◌, ◌==◌, inl, inr, ℕ, Bool, Err, IsTrue, true, false, List, [], ◌∷◌, append-nil, Option, None, Some, refl, sym, subst, ◌∙◌}
 use Rattle.std.proofs.lemmas.Bool.{false≢true}
-use Rattle.std.specs.Prelude.{⊤, length}
+use Rattle.std.specs.Prelude.{length}
 use Rattle.tup_site.specs.World.{World}
 use Rattle.tup_site.specs.declared.fault.SiteFailed.TheVariants.{Fault, TooLarge, Memory as NoMemory}
 use Rattle.tup_rule.specs.declared.rule.RuleName.{RuleName}
@@ -14,7 +14,8 @@ use Rattle.tup_promise.specs.declared.fault.SourcesFault.TheVariants as sources
 use Rattle.tup_promise.specs.declared.log.Log.{Log}
 use Rattle.tup_promise.specs.declared.stop.Stop.{Stop}
 use Rattle.tup_promise.specs.declared.stop.Stop.TheVariants.{NoStore, BadStore as StoreDamaged, Sources, UserFile as IsUsers, Bad, Run, Full, Outside}
-use Rattle.tup_top.specs.Printed.{Ends, EndsTold, PrintsUpdate, hears_none, demo_world}
+use Rattle.tup_top.specs.Demo.{demo_world}
+use Rattle.tup_top.specs.Printed.{Ends, EndsTold, PrintsUpdate, hears_none}
 use Rattle.tup_top.specs.Status.{after_telling, log_of_todo, status_of, status_of_sources}
 use Rattle.tup_top.specs.Telling.{Hears, TellsTodo, TellsUpdate, events_of}
 use Rattle.tup_top.specs.declared.status.Status.{Status}
@@ -146,12 +147,13 @@ module _ {T : Type 0} (told : T → List Event) (faults : T → ℕ) where
       by false tells is = inr is
 
   -- so are the lines of a demo, which has none
-  pub unheard_prints : (old kept failed : List T) → old ≡ [] → (jobs : ℕ) → jobs ≡ 1 → (says : Log → List (Option (List ℕ)) → Type 0) (holds : Log → Option Stop → Type 0) (was left : World) (ran : List RuleName) (before now : ℕ) (held grown : List ℕ) (answer : Status)
-      → ((log : Log) (chains : List (Option (List ℕ))) → says log chains → chains ≡ []) → was ≡ demo_world → PrintsUpdate jobs true false says holds (Hears told faults old kept failed) was left ran before now held grown answer
-      → PrintsUpdate 1 true false (λ log chains. chains ≡ []) (λ log stopped. ⊤) hears_none demo_world left ran before now held grown answer
-  unheard_prints old kept failed none jobs one says holds was left ran before now held grown answer unsaid same given =
-      says_less 1 true false says (λ log chains. chains ≡ []) holds (λ log stopped. ⊤) (Hears told faults old kept failed) hears_none was demo_world left ran before now held grown answer same
-      (subst (λ (n : ℕ). PrintsUpdate n true false says holds (Hears told faults old kept failed) was left ran before now held grown answer) one given) unsaid (λ log stopped so. tt) (heard_none old kept failed none)
+  pub unheard_prints : (old kept failed : List T) → old ≡ [] → (jobs : ℕ) → jobs ≡ 1 → (says : Log → List (Option (List ℕ)) → Type 0) (holds true_there : Log → Option Stop → Type 0) (was left : World) (ran : List RuleName) (before now : ℕ) (held grown : List ℕ) (answer : Status)
+      → ((log : Log) (chains : List (Option (List ℕ))) → says log chains → chains ≡ []) → ((log : Log) (stopped : Option Stop) → holds log stopped → true_there log stopped) → was ≡ demo_world
+      → PrintsUpdate jobs true false says holds (Hears told faults old kept failed) was left ran before now held grown answer
+      → PrintsUpdate 1 true false (λ log chains. chains ≡ []) true_there hears_none demo_world left ran before now held grown answer
+  unheard_prints old kept failed none jobs one says holds true_there was left ran before now held grown answer unsaid so same given =
+      says_less 1 true false says (λ log chains. chains ≡ []) holds true_there (Hears told faults old kept failed) hears_none was demo_world left ran before now held grown answer same
+      (subst (λ (n : ℕ). PrintsUpdate n true false says holds (Hears told faults old kept failed) was left ran before now held grown answer) one given) unsaid so (heard_none old kept failed none)
 
 -- ---- an update for which there was no memory before it began
 

@@ -1,15 +1,18 @@
 -- What a demo answers whose small project couldn't begin: there was no memory.
 use Rattle.std.proofs.Common.{◌≡◌, refl, inl, inr, ℕ, true, false, List, [], Err, sym, ap, subst, ◌∙◌}
-use Rattle.std.specs.Prelude.{⊤}
+use Rattle.tup_mini.specs.Means.{mini_next}
 use Rattle.tup_graph.specs.declared.fault.GraphFault.{GraphFault}
 use Rattle.tup_graph.specs.declared.fault.GraphFault.TheVariants as graph
 use Rattle.tup_top.specs.Lines.{last_line}
-use Rattle.tup_top.specs.Printed.{Ends, Prints, PrintsDemo, demo_world}
+use Rattle.tup_top.specs.Demo.{demo_world}
+use Rattle.tup_top.specs.Printed.{Ends, Prints, PrintsDemo}
 use Rattle.tup_top.specs.Promise.{HasDemoCause}
 use Rattle.tup_top.specs.Status.{status_of_begun}
+use Rattle.tup_top.specs.Truth.{IsTrueOver}
 use Rattle.tup_top.specs.declared.status.Status.{Status}
 use Rattle.tup_top.specs.declared.status.Status.TheVariants.{Memory}
 use Rattle.tup_top.proofs.Causes.{told_nothing}
+use Rattle.tup_top.proofs.True.{nothing_over}
 
 module _ (before now : ℕ) (fault : GraphFault) (status answer : Status) (memory : fault ≡ graph.Memory) (is : status ≡ status_of_begun (Err fault)) (ends : Ends before now status answer) where
   it_is : status ≡ Memory
@@ -31,8 +34,9 @@ module _ (before now : ℕ) (fault : GraphFault) (status answer : Status) (memor
   unshown_prints held grown prints = (
     [],
     demo_world,
+    λ other. absurd (other (answer_is ends_so)),
     record {
-      told = told_nothing 1 true false (λ log chains. chains ≡ []) refl (λ log stopped. ⊤) tt demo_world;
+      told = told_nothing 1 true false (λ log chains. chains ≡ []) refl (IsTrueOver mini_next demo_world demo_world) (nothing_over mini_next demo_world demo_world) demo_world;
       status = Memory;
       heard = inl refl;
       ends = ends_so;

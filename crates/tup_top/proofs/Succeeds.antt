@@ -14,7 +14,7 @@ use Rattle.tup_rule.specs.declared.rule.RuleName.{RuleName}
 use Rattle.tup_runner.specs.Next.{Next}
 use Rattle.tup_access.specs.declared.verdict.Verdict.{Verdict}
 use Rattle.tup_access.specs.declared.verdict.Verdict.TheVariants.{Failed, IllegalRead as ReadsIllegally, IllegalWrite as WritesIllegally, Unwritten as LeavesUnwritten, TooManyReads as ReadsTooOften}
-use Rattle.tup_clean.specs.Clean.{clean, is_good}
+use Rattle.tup_clean.specs.Clean.{clean, is_good, succeeds}
 use Rattle.tup_project.specs.Project.{ComeTo}
 use Rattle.tup_project.specs.Laws.{AreAlike}
 use Rattle.tup_project.specs.declared.fault.ProjectFault.{ProjectFault}
@@ -25,6 +25,7 @@ use Rattle.tup_graph.specs.Kept.{IsGraphIn}
 use Rattle.tup_ledger.specs.Sources.{sources_of}
 use Rattle.tup_law_site.proofs.Stores.{one_in_bytes}
 use Rattle.tup_promise.specs.Blamed.{ComesToFault, HasFileOf, IsBadRule, IsToBlame}
+use Rattle.tup_promise.specs.Kept.{AsksFor, OfGraph}
 use Rattle.tup_promise.specs.Stopped.{stop_of_project}
 use Rattle.tup_promise.specs.declared.fault.SourcesFault.{SourcesFault}
 use Rattle.tup_promise.specs.declared.fault.SourcesFault.TheVariants as sources
@@ -32,7 +33,7 @@ use Rattle.tup_promise.specs.declared.stop.Stop.TheVariants.{Sources}
 use Rattle.tup_promise.proofs.Stored.{some_bytes, undamaged}
 use Rattle.tup_top.specs.Promise.{Counts, FindsOut, HasAloneCause, HasSharedCause, IsDoneOrMemory, NothingFailed, OpensStore}
 use Rattle.tup_top.specs.Status.{IfCame}
-use Rattle.tup_top.specs.Success.{CanBeDone, CanBeListed, CanBeRead, IsDoneOrNoRoom}
+use Rattle.tup_top.specs.Success.{CanBeDone, CanBeListed, IsDoneOrNoRoom}
 use Rattle.tup_top.specs.declared.status.What.TheVariants.{Files, FileSize, Commands, Links, StoreSize}
 use Rattle.tup_top.specs.declared.status.Status.{Status}
 use Rattle.tup_top.specs.declared.status.Status.TheVariants.{Done, Command, IllegalRead, IllegalWrite, Unwritten, TooManyReads, Usage, NotInit, AlreadyInit, BadStore, Parse, CircularDirs, CircularCommands, NoSuchGroup, UserFile, SiteFault, RunFault, SinkFault, TellFault, Limit, Memory, Differs}
@@ -56,13 +57,20 @@ not_both rules (project.NoSuchGroup group) fault alike is = alike
 not_both rules (project.TooMany what number) fault alike is = alike
 not_both rules project.Memory fault alike is = absurd (cc is)
 
--- ---- sources that ask for rules have no fault
-module _ (old : World) (g : GraphState) (stored : IsGraphIn old.store g) (can : CanBeRead old) where
-  no_fault : (fault : SourcesFault) → ComesToFault old fault → ⊥
-  no_fault fault (h, reads, (cause, come, is)) =
-      let asks = can.asks.1 in
-      not_both can.asks.0 cause fault
-      (projects_alike (sources_of asks.0 old.tree) (Ok can.asks.0) (Err cause) asks.2 (subst (λ (k : GraphState). ComeTo (sources_of k old.tree) (Err cause)) (one_in_bytes old.store h asks.0 reads asks.1) come)) is
+-- sources that ask for rules have no fault
+pub no_fault : (old : World) → ((rules : List Rule) × AsksFor old rules) → (fault : SourcesFault) → ComesToFault old fault → ⊥
+no_fault old (rules, (g, stored, come)) fault (h, reads, (cause, faulty, is)) =
+    not_both rules cause fault
+    (projects_alike (sources_of g old.tree) (Ok rules) (Err cause) come (subst (λ (k : GraphState). ComeTo (sources_of k old.tree) (Err cause)) (one_in_bytes old.store h g reads stored) faulty)) is
+
+-- nor is a rule bad, where all are good in the clean build
+pub no_bad : (next : Next) (old : World) → ((rules : List Rule) → AsksFor old rules → OfGraph old (λ g. succeeds (clean next rules (sources_of g old.tree)) ≡ true)) → (ran : List RuleName) (name : RuleName) (verdict : Verdict) → is_good (Some verdict) ≡ false
+    → IsBadRule next old ran name verdict → ⊥
+no_bad next old all ran name verdict bad blamed =
+    let builds = all blamed.rules blamed.asked in
+    one_bad (clean next blamed.rules (sources_of builds.0 old.tree)).verdicts blamed.at verdict
+    (subst (λ (k : GraphState). slice_get (clean next blamed.rules (sources_of k old.tree)).verdicts blamed.at ≡ Some (Some verdict)) (one_in_bytes old.store blamed.verdict_is.0 builds.0 blamed.verdict_is.1 builds.1) blamed.verdict_is.2)
+    bad builds.2
 
 -- ---- finding out what an update would do ends well
 module _ (old new : World) (g : GraphState) (stored : IsGraphIn old.store g) (can : CanBeListed old new) where
@@ -77,10 +85,10 @@ module _ (old new : World) (g : GraphState) (stored : IsGraphIn old.store g) (ca
   finds_so kept before now NotInit here finds counted told fine = some_bytes old.store g stored finds.opens.2.0
   finds_so kept before now AlreadyInit here finds counted told fine = absurd finds
   finds_so kept before now (BadStore offset) here finds counted told fine = undamaged old.store g offset stored finds.opens.2.0
-  finds_so kept before now (Parse fault) here finds counted told fine = no_fault old g stored can.read (sources.Parse fault) (finds.blamed here)
-  finds_so kept before now (CircularDirs cycle) here finds counted told fine = no_fault old g stored can.read (sources.CircularDirs cycle) (finds.blamed here)
-  finds_so kept before now (CircularCommands cycle) here finds counted told fine = no_fault old g stored can.read (sources.CircularCommands cycle) (finds.blamed here)
-  finds_so kept before now (NoSuchGroup group) here finds counted told fine = no_fault old g stored can.read (sources.NoSuchGroup group) (finds.blamed here)
+  finds_so kept before now (Parse fault) here finds counted told fine = no_fault old can.read.asks (sources.Parse fault) (finds.blamed here)
+  finds_so kept before now (CircularDirs cycle) here finds counted told fine = no_fault old can.read.asks (sources.CircularDirs cycle) (finds.blamed here)
+  finds_so kept before now (CircularCommands cycle) here finds counted told fine = no_fault old can.read.asks (sources.CircularCommands cycle) (finds.blamed here)
+  finds_so kept before now (NoSuchGroup group) here finds counted told fine = no_fault old can.read.asks (sources.NoSuchGroup group) (finds.blamed here)
   finds_so kept before now (UserFile path) here (written, found, finds) counted told fine = absurd finds.stops
   finds_so kept before now SiteFault here finds counted told fine = not_rose before.site now.site fine.site fine.site_counts counted.0
   finds_so kept before now RunFault here finds counted told fine = absurd finds.stops
@@ -88,26 +96,19 @@ module _ (old new : World) (g : GraphState) (stored : IsGraphIn old.store g) (ca
   finds_so kept before now TellFault here finds counted told fine = told refl
   finds_so kept before now (Limit FileSize number) here (count, passed, finds) counted told fine = can.read.small count passed (finds.blamed here)
   finds_so kept before now (Limit Files number) here (count, passed, finds) counted told fine = too_many count (length (finite.keys old.tree)) passed (finds.blamed here) can.read.few
-  finds_so kept before now (Limit Commands number) here (count, passed, finds) counted told fine = no_fault old g stored can.read (sources.TooManyCommands count) (finds.blamed here)
-  finds_so kept before now (Limit Links number) here (count, passed, finds) counted told fine = no_fault old g stored can.read (sources.TooManyLinks count) (finds.blamed here)
+  finds_so kept before now (Limit Commands number) here (count, passed, finds) counted told fine = no_fault old can.read.asks (sources.TooManyCommands count) (finds.blamed here)
+  finds_so kept before now (Limit Links number) here (count, passed, finds) counted told fine = no_fault old can.read.asks (sources.TooManyLinks count) (finds.blamed here)
   finds_so kept before now (Limit StoreSize number) here finds counted told fine = can.room (finds.full here)
   finds_so kept before now Memory here finds counted told fine = tt
   finds_so kept before now (Differs path) here finds counted told fine = absurd finds
 
--- ---- nor is a rule bad
+-- ---- an update ends well
 module _ {S : Type 0} (site : Site S) (next : Next) (old new : S) (g : GraphState) (stored : IsGraphIn (site.world old).store g) (can : CanBeDone site next old new) where
   abbrev first : World
   first = site.world old
 
   abbrev left : World
   left = site.world new
-
-  no_bad : (ran : List RuleName) (name : RuleName) (verdict : Verdict) → is_good (Some verdict) ≡ false → IsBadRule next first ran name verdict → ⊥
-  no_bad ran name verdict bad blamed =
-      let builds = can.builds blamed.rules blamed.asked in
-      one_bad (clean next blamed.rules (sources_of builds.0 first.tree)).verdicts blamed.at verdict
-      (subst (λ (k : GraphState). slice_get (clean next blamed.rules (sources_of k first.tree)).verdicts blamed.at ≡ Some (Some verdict)) (one_in_bytes first.store blamed.verdict_is.0 builds.0 blamed.verdict_is.1 builds.1) blamed.verdict_is.2)
-      bad builds.2
 
   no_large : (bytes : ℕ) → most_bytes < bytes → HasFileOf bytes first.tree ⊎ HasFileOf bytes left.tree → ⊥
   no_large bytes passed = ⊎_elim (can.read.small bytes passed) (can.small bytes passed)
@@ -116,19 +117,19 @@ module _ {S : Type 0} (site : Site S) (next : Next) (old new : S) (g : GraphStat
   pub updates_so : (ran : List RuleName) (before now : Counts) (status : Status) → IfCame status (OpensStore first left ran) → IfCame status (IsToBlame next first left ran)
       → HasSharedCause before now status → (status ≡ TellFault → ⊥) → NothingFailed before now → IsDoneOrNoRoom status
   updates_so ran before now (Done read done removed) opens blamed counted told fine = tt
-  updates_so ran before now (Command rule status) opens blamed counted told fine = no_bad ran rule (Failed status) refl blamed
-  updates_so ran before now (IllegalRead rule text) opens blamed counted told fine = no_bad ran rule (ReadsIllegally text) refl blamed
-  updates_so ran before now (IllegalWrite rule text) opens blamed counted told fine = no_bad ran rule (WritesIllegally text) refl blamed
-  updates_so ran before now (Unwritten rule path) opens blamed counted told fine = no_bad ran rule (LeavesUnwritten path) refl blamed
-  updates_so ran before now (TooManyReads rule) opens blamed counted told fine = no_bad ran rule ReadsTooOften refl blamed
+  updates_so ran before now (Command rule status) opens blamed counted told fine = no_bad next first can.builds ran rule (Failed status) refl blamed
+  updates_so ran before now (IllegalRead rule text) opens blamed counted told fine = no_bad next first can.builds ran rule (ReadsIllegally text) refl blamed
+  updates_so ran before now (IllegalWrite rule text) opens blamed counted told fine = no_bad next first can.builds ran rule (WritesIllegally text) refl blamed
+  updates_so ran before now (Unwritten rule path) opens blamed counted told fine = no_bad next first can.builds ran rule (LeavesUnwritten path) refl blamed
+  updates_so ran before now (TooManyReads rule) opens blamed counted told fine = no_bad next first can.builds ran rule ReadsTooOften refl blamed
   updates_so ran before now (Usage place) opens blamed counted told fine = absurd counted
   updates_so ran before now NotInit opens blamed counted told fine = some_bytes first.store g stored opens.2.0
   updates_so ran before now AlreadyInit opens blamed counted told fine = absurd counted
   updates_so ran before now (BadStore offset) opens blamed counted told fine = undamaged first.store g offset stored opens.2.0
-  updates_so ran before now (Parse fault) opens blamed counted told fine = no_fault first g stored can.read (sources.Parse fault) blamed
-  updates_so ran before now (CircularDirs cycle) opens blamed counted told fine = no_fault first g stored can.read (sources.CircularDirs cycle) blamed
-  updates_so ran before now (CircularCommands cycle) opens blamed counted told fine = no_fault first g stored can.read (sources.CircularCommands cycle) blamed
-  updates_so ran before now (NoSuchGroup group) opens blamed counted told fine = no_fault first g stored can.read (sources.NoSuchGroup group) blamed
+  updates_so ran before now (Parse fault) opens blamed counted told fine = no_fault first can.read.asks (sources.Parse fault) blamed
+  updates_so ran before now (CircularDirs cycle) opens blamed counted told fine = no_fault first can.read.asks (sources.CircularDirs cycle) blamed
+  updates_so ran before now (CircularCommands cycle) opens blamed counted told fine = no_fault first can.read.asks (sources.CircularCommands cycle) blamed
+  updates_so ran before now (NoSuchGroup group) opens blamed counted told fine = no_fault first can.read.asks (sources.NoSuchGroup group) blamed
   updates_so ran before now (UserFile path) opens (written, found, blamed) counted told fine = can.unhindered (path, written, found, blamed.users)
   updates_so ran before now SiteFault opens blamed counted told fine = not_rose before.site now.site fine.site fine.site_counts counted
   updates_so ran before now RunFault opens blamed counted told fine = no_runner_rose before now fine counted
@@ -136,8 +137,8 @@ module _ {S : Type 0} (site : Site S) (next : Next) (old new : S) (g : GraphStat
   updates_so ran before now TellFault opens blamed counted told fine = told refl
   updates_so ran before now (Limit FileSize number) opens (count, passed, large) counted told fine = absurd (no_large count passed large)
   updates_so ran before now (Limit Files number) opens (count, passed, many) counted told fine = absurd (too_many count (length (finite.keys first.tree)) passed many can.read.few)
-  updates_so ran before now (Limit Commands number) opens (count, passed, fault) counted told fine = absurd (no_fault first g stored can.read (sources.TooManyCommands count) fault)
-  updates_so ran before now (Limit Links number) opens (count, passed, fault) counted told fine = absurd (no_fault first g stored can.read (sources.TooManyLinks count) fault)
+  updates_so ran before now (Limit Commands number) opens (count, passed, fault) counted told fine = absurd (no_fault first can.read.asks (sources.TooManyCommands count) fault)
+  updates_so ran before now (Limit Links number) opens (count, passed, fault) counted told fine = absurd (no_fault first can.read.asks (sources.TooManyLinks count) fault)
   updates_so ran before now (Limit StoreSize number) opens blamed counted told fine = refl
   updates_so ran before now Memory opens blamed counted told fine = tt
   updates_so ran before now (Differs path) opens blamed counted told fine = absurd counted

@@ -3,6 +3,7 @@ pub mod Status
 pub mod Lines
 pub mod Crew
 pub mod Truth
+pub mod Demo
 pub mod Printed
 pub mod Telling
 pub mod Promise

@@ -6,8 +6,7 @@ use Rattle.tup_site.specs.declared.site.Site.{Ghosts as Site}
 use Rattle.tup_rule.specs.declared.rule.RuleName.{RuleName}
 use Rattle.tup_runner.specs.Next.{Next}
 use Rattle.tup_tell.specs.Sink.{GrownByPart}
-use Rattle.tup_demo.specs.Project.{demo_tree}
-use Rattle.tup_table.specs.Store.{header}
+use Rattle.tup_mini.specs.Means.{mini_next}
 use Rattle.tup_graph.specs.declared.fault.GraphFault.{GraphFault}
 use Rattle.tup_ledger.specs.declared.beginning.Begun.{Begun}
 use Rattle.tup_compare.specs.Compared.{HasCompared}
@@ -20,9 +19,11 @@ use Rattle.tup_promise.specs.declared.stop.Stop.{Stop}
 use Rattle.tup_todo.specs.Lists.{ListsWhatIsDue}
 use Rattle.tup_update.specs.Because.{AreExplained, CountsChains, OfEnded}
 use Rattle.tup_todo.specs.declared.todo.Todo.{Todo as TodoLists}
+use Rattle.tup_top.specs.Demo.{UpdatesDemo, demo_world}
 use Rattle.tup_top.specs.Lines.{lines, last_line, begun_line, compared_line, todo_lines}
 use Rattle.tup_top.specs.Order.{Wanted}
 use Rattle.tup_top.specs.Status.{log_of_todo, status_of, status_of_begun, status_of_compared, status_of_todo}
+use Rattle.tup_top.specs.Truth.{IsTrueOver}
 use Rattle.tup_top.specs.declared.order.Order.TheVariants.{Init, Upd, Todo, Verify, Demo}
 use Rattle.tup_top.specs.declared.status.Status.{Status}
 use Rattle.tup_top.specs.declared.status.Status.TheVariants.{Done, Usage, SinkFault, TellFault, Memory}
@@ -106,13 +107,11 @@ pub record PrintsBegun (before now : ℕ) (old new : List ℕ) (answer : Status)
   pub ends : Ends before now (status_of_begun begun) answer
   pub prints : Prints (status_of_begun begun) (begun_line (status_of_begun begun)) before now old new answer
 
--- the small project of a demo, in the site that holds it, once it began
-abbrev pub demo_world : World
-demo_world = record { tree = demo_tree; store = header ++ 0 ∷ [] }
-
--- the lines of the update that a demo shows, over a site of its own
+-- The lines of the update that a demo shows, over a site of its own. Their log is true; and unless there was no memory, it keeps what an
+-- update of a kept site promises.
 abbrev pub PrintsDemo : ℕ → ℕ → List ℕ → List ℕ → Status → Type 0
-PrintsDemo before now old new answer = (ran : List RuleName) × (left : World) × PrintsUpdate 1 true false (λ log chains. chains ≡ []) (λ log stopped. ⊤) hears_none demo_world left ran before now old new answer
+PrintsDemo before now old new answer = (ran : List RuleName) × (left : World) × (answer ≢ Memory → UpdatesDemo ran left answer)
+    × PrintsUpdate 1 true false (λ log chains. chains ≡ []) (IsTrueOver mini_next demo_world left) hears_none demo_world left ran before now old new answer
 
 -- the lines of what was asked for: of the update, of what it would do where the site is kept, of the beginning, of the comparison, of
 -- the demo's update, or the line of the refusal. The first number says by how many runners an update goes.

@@ -201,20 +201,14 @@ abbrev pub HasComparedCause : Counts → Counts → Status → Type 0
 HasComparedCause before now (Differs path) = AreSteady before now
 HasComparedCause before now other = HasCountedCause before now other
 
--- The same of a demo, whose site and runner are its own and never fail, and whose project has begun.
+-- The same of a demo, whose site and runner are its own and never fail, whose project has begun, and whose one rule is good. So it is
+-- done, unless the sink failed, or a limit or want of memory stopped it.
 abbrev pub HasDemoCause : ℕ → ℕ → Status → Type 0
 HasDemoCause before now (Done read ran removed) = now ≡ before
 HasDemoCause before now SinkFault = Rose before now
 HasDemoCause before now (Limit what number) = number ≡ most what
-HasDemoCause before now (Usage place) = ⊥
-HasDemoCause before now NotInit = ⊥
-HasDemoCause before now AlreadyInit = ⊥
-HasDemoCause before now (BadStore offset) = ⊥
-HasDemoCause before now SiteFault = ⊥
-HasDemoCause before now RunFault = ⊥
-HasDemoCause before now TellFault = ⊥
-HasDemoCause before now (Differs path) = ⊥
-HasDemoCause before now other = ⊤
+HasDemoCause before now Memory = ⊤
+HasDemoCause before now other = ⊥
 
 -- the same of a beginning, by what its site and its sink count
 abbrev pub HasBegunCause : ℕ → ℕ → ℕ → ℕ → Status → Type 0

@@ -2,6 +2,7 @@
 use Rattle.std.specs.Prelude.{Option, IsTrue}
 use Rattle.tup_site.specs.World.{World}
 use Rattle.tup_site.specs.declared.site.Site.{Ghosts as Site}
+use Rattle.tup_runner.specs.Next.{Next}
 use Rattle.tup_runner.specs.declared.runner.Runner.{Ghosts as Runner}
 use Rattle.tup_promise.specs.BadEnds.{BadEnds, BlamesFirst}
 use Rattle.tup_promise.specs.Did.{ReadAndRemoved}
@@ -19,3 +20,10 @@ pub record IsTrueLog {S R : Type 0} (site : Site S) (runner : Runner R) (old : S
   pub first : KeptHere site runner old → BlamesFirst (site.world old) log stopped
   pub left : KeptHere site runner old → GoodEnds runner.next (site.world old) new log
   pub did : IsTrue site.tells → IsKeptBySome site old → ReadAndRemoved (site.world old) log stopped
+
+-- The same of an update of a kept world, by commands that mean this.
+pub record IsTrueOver (next : Next) (old new : World) (log : Log) (stopped : Option Stop) : Type 0 where
+  pub bads : BadEnds next old log
+  pub first : BlamesFirst old log stopped
+  pub left : GoodEnds next old new log
+  pub did : ReadAndRemoved old log stopped

@@ -18,9 +18,9 @@ ghost use Rattle.tup_promise.specs.Unopened.{IsReadable};
 ghost use Rattle.tup_promise.specs.Users.{HasUsersFile, IsHeldUp};
 ghost use Rattle.tup_update.specs.Full.{HasFullCause};
 ghost use Rattle.tup_top.specs.Crew.{IsCrew};
+ghost use Rattle.tup_top.specs.Demo.{IsKeptDemo, demo_world};
 ghost use Rattle.tup_top.specs.Lines.{lines as lines_of};
 ghost use Rattle.tup_top.specs.Printed.{Ends, EndsTold, IsDone, Prints, PrintsDemo, PrintsUpdate, SaysWhyOf};
-ghost use Rattle.tup_top.specs.Printed.{demo_world};
 ghost use Rattle.tup_top.specs.Promise.{HasCrewCause, HasDemoCause, Logs, OnceDone};
 ghost use Rattle.tup_top.specs.Promise.{OpensStore, Spares, counts};
 ghost use Rattle.tup_top.specs.Status.{IfCame, status_of as told_by};
@@ -35,7 +35,7 @@ use crate::telling::{Reported, after_telling, hear, nobody};
 use std::alloc::Global;
 use std::sync::Wait;
 use std::thread::Threads;
-use tup_demo::{SteadySite, demo_project};
+use tup_demo::{SteadySite, demo_asks, demo_builds, demo_project};
 use tup_graph::GraphFault;
 use tup_ledger::begin;
 use tup_mini::Mini;
@@ -339,6 +339,8 @@ pub(crate) fn demo<W: Threads + Wait + Sync, K: Sink>(rt: &W, alloc: Global, out
         → let before = K.faults out.old in let now = K.faults out.new in
         PrintsDemo before now (K.held out.old) (K.held out.new) result }
 {
+    demo_asks();
+    demo_builds();
     let plain = Asked {
         keep_going: false,
         explain: false,
@@ -363,6 +365,7 @@ pub(crate) fn demo<W: Threads + Wait + Sync, K: Sink>(rt: &W, alloc: Global, out
 /// The small project, begun, and the crew that updates it. They are refused for want of memory alone.
 fn demo_parts(alloc: Global) -> Result<(SteadySite, Vec<Mini>), GraphFault>
     ensures holds { IfOk result (λ parts. world_in parts.0 ≡ demo_world) }
+    ensures kept { IfOk result (λ parts. IsKeptDemo parts.0) }
     ensures alone { IfOk result (λ parts. length parts.1.items ≡ 1) }
     ensures memory { IfErr result (λ fault. fault ≡ GraphFault.Memory) }
 {
@@ -376,6 +379,7 @@ fn demo_parts(alloc: Global) -> Result<(SteadySite, Vec<Mini>), GraphFault>
 /// The small project, begun. It is refused for want of memory alone.
 fn demo_site(alloc: Global) -> Result<SteadySite, GraphFault>
     ensures holds { IfOk result (λ site. world_in site ≡ demo_world) }
+    ensures kept { IfOk result (λ site. IsKeptDemo site) }
     ensures memory { IfErr result (λ fault. fault ≡ GraphFault.Memory) }
 {
     match demo_project(alloc) {
@@ -386,14 +390,22 @@ fn demo_site(alloc: Global) -> Result<SteadySite, GraphFault>
     }
 }
 
-/// A project that begins where there is no store, in a site that never fails.
+/// A project that begins where there is no store, in a site that never fails. It is durable then.
 fn begun(alloc: Global, site: SteadySite) -> Result<SteadySite, GraphFault>
     requires { store_in site ≡ [] }
     ensures files { IfOk result (λ begun. tree_in begun ≡ tree_in site) }
     ensures store { IfOk result (λ begun. store_in begun ≡ header ++ 0 ∷ []) }
+    ensures kept { IfOk result (λ begun. IsKeptDemo begun) }
     ensures memory { IfErr result (λ fault. fault ≡ GraphFault.Memory) }
 {
     let mut site = site;
     begin(alloc, &mut site)?;
-    Ok(site)
+    match site.settle(alloc) {
+        Ok(()) => Ok(site),
+        // so want of memory alone refuses it
+        Err(_) => {
+            drop(site);
+            Err(GraphFault::Memory)
+        }
+    }
 }
