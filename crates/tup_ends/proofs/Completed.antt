@@ -33,6 +33,7 @@ use Rattle.tup_law_phases.proofs.Planned.{planned}
 use Rattle.tup_law_phases.proofs.Seen.{core_knows, core_knows_tree, is_for_core}
 use Rattle.tup_law_phases.proofs.Tupfiles.{is_language}
 use Rattle.tup_promise.specs.Finished.{IsAsWritten, IsFinished}
+use Rattle.tup_promise.specs.Kept.{HaveTupfiles}
 use Rattle.tup_ends.proofs.Again.{seen_written}
 
 module _ (next : Next) (known : List Content) (h : GraphState) (tree : Tree) (kept : IsKept next tupfiles known h) (none : (number : ℕ) → is_flagged h number ≡ false)
@@ -120,14 +121,16 @@ module _ (next : Next) (known : List Content) (h : GraphState) (tree : Tree) (ke
           let written = seen_written next known h kept number rule path (record { here = there; unflagged = none number }) output in
           (written.2, ap (λ (o : Owned). o.state) (same_Some owner written.0 (sym here ∙ written.1)) ∙ written.3, sym (seen path) ∙ written.4)
 
-  pub finished : h.created ≡ finite.empty → ComeTo sources (Ok h.rules) → IsFinished next sources h tree
-  finished created come = record {
+  pub finished : h.created ≡ finite.empty → HaveTupfiles sources h → ComeTo sources (Ok h.rules) → IsFinished next sources h tree
+  finished created read come = record {
     sources_are = refl;
     rules = come;
     builds = builds;
     files = same_tree;
     owned = owned_is;
     written = written_is;
+    seen = seen;
+    read = read;
     created = created;
     none_due = λ rules at asked reached. none_left next tupfiles known h tree kept (λ number rule here. none number) seen sources rules come asked at reached;
   }

@@ -6,14 +6,16 @@ use Rattle.std.specs.Prelude.{is_none, slice_get}
 use Rattle.std.proofs.lemmas.Bool.{true≢false}
 use Rattle.std.proofs.lemmas.Option.{none-some, same_Some}
 use Rattle.tup_path.specs.Name.{Names}
-use Rattle.tup_path.specs.Order.{by_names-total, by_names-antisymmetric, same_path}
+use Rattle.tup_path.specs.Order.{by_names, by_names-total, by_names-antisymmetric, same_path}
 use Rattle.tup_path.specs.Tree.{Tree}
 use Rattle.tup_site.specs.Known.{IsKnown, Joins, KnowsTree}
 use Rattle.tup_site.specs.World.{World}
 use Rattle.tup_site.specs.declared.site.Site.{Ghosts as Site}
 use Rattle.tup_rule.specs.Rule.{is_generated}
+use Rattle.tup_rule.specs.declared.question.Reading.{Reading}
 use Rattle.tup_rule.specs.declared.rule.Rule.{Rule}
 use Rattle.tup_rule.proofs.Laws.{maker-Some}
+use Rattle.tup_readings.specs.Sources.{has_tupfile}
 use Rattle.tup_runner.specs.Next.{Next}
 use Rattle.tup_runner.specs.declared.runner.Runner.{Ghosts as Runner}
 use Rattle.tup_clean.proofs.Among.{is_generated-maker}
@@ -39,6 +41,7 @@ use Rattle.tup_law_board.proofs.Sites.{kept_now, seen_now, site_kept}
 use Rattle.tup_law_phases.specs.Language.{tupfiles}
 use Rattle.tup_law_phases.proofs.Seen.{is_beside}
 use Rattle.tup_promise.specs.Finished.{IsSettled, ExactlyTheFiles, IsFinished}
+use Rattle.tup_promise.specs.Kept.{HaveTupfiles, OfGraph}
 use Rattle.tup_promise.specs.Needed.{FlagsWhatWasDue, IsDue, NamesAllDue}
 use Rattle.tup_promise.specs.Prepared.{IsPrepared}
 use Rattle.tup_ends.proofs.Completed.{finished}
@@ -54,6 +57,14 @@ same_sources w v g h same =
 ended_so : (next : Next) (first w : World) (g h : GraphState) → IsGraphIn first.store g → IsGraphIn w.store h → sources_of h w.tree ≡ sources_of g first.tree
     → IsFinished next (sources_of h w.tree) h w.tree → ExactlyTheFiles next first w None
 ended_so next first w g h begun stands same done = (g, begun, (h, stands, subst (λ (sources : Tree). IsFinished next sources h w.tree) same done))
+
+-- where the readings are those of a graph that was up to date, and the sources those of the world that it was up to date with, each folder
+-- of which a reading is kept has a Tupfile
+read_there : (first w : World) (g h begun : GraphState) → IsGraphIn first.store begun → OfGraph first (λ was. HaveTupfiles (sources_of was first.tree) g) → h.readings ≡ g.readings → sources_of h w.tree ≡ sources_of begun first.tree
+    → HaveTupfiles (sources_of h w.tree) h
+read_there first w g h begun stored (was, mine, read) same sources dir left here =
+    subst (λ (tree : Tree). IsTrue (has_tupfile tree dir)) (ap (λ (k : GraphState). sources_of k first.tree) (one_in_bytes first.store was begun mine stored) ∙ sym sources)
+    (read dir left (sym (ap (λ (m : finite.FinMap by_names Reading). finite.get m dir) same) ∙ here))
 
 -- ---- at once
 module _ {S : Type 0} (site : Site S) (next : Next) (first : World) (since : ℕ) (graph : Held) (at : S) (prepared : IsPrepared site next first since graph at)
@@ -78,7 +89,7 @@ module _ {S : Type 0} (site : Site S) (next : Next) (first : World) (since : ℕ
   is_finished : IsKnown (site.known at) → KnowsTree (site.known at) now.tree → ((number : ℕ) → is_flagged graph.nodes number ≡ false) → IsFinished next (sources_of graph.nodes now.tree) graph.nodes now.tree
   is_finished apart knows none =
       finished next (site.known at) graph.nodes now.tree (is_kept site next tupfiles (site.known at) first since graph at prepared.over earlier now present) none prepared.seen prepared.made apart knows
-      prepared.created (subst (λ (sources : Tree). ComeTo sources (Ok graph.nodes.rules)) (sym sources_are) prepared.rules.2)
+      prepared.created (read_there first now graph.nodes graph.nodes begun prepared.rules.1 prepared.read refl sources_are) (subst (λ (sources : Tree). ComeTo sources (Ok graph.nodes.rules)) (sym sources_are) prepared.rules.2)
 
   pub at_once : IsKnown (site.known at) → KnowsTree (site.known at) now.tree → ((number : ℕ) → is_flagged graph.nodes number ≡ false) → ExactlyTheFiles next first now None
   at_once apart knows none = ended_so next first now begun graph.nodes prepared.rules.1 in_store sources_are (is_finished apart knows none)
@@ -191,7 +202,7 @@ module _ {S R : Type 0} (site : Site S) (runner : Runner R) (b : BoardState S) (
   is_done : IsFinished runner.next (sources_of h end.tree) h end.tree
   is_done =
       finished runner.next (site.known b.site) h end.tree kept_end (λ number. is_present.flags number ∙ none_pending number) seen_end made_end apart knows
-      (is_present.come.beside.created ∙ prepared.created) come
+      (is_present.come.beside.created ∙ prepared.created) (read_there first end fg h prepared.rules.0 prepared.rules.1 prepared.read is_present.come.beside.readings sources_end) come
 
   pub at_end : ExactlyTheFiles runner.next first end None
   at_end = ended_so runner.next first end prepared.rules.0 h prepared.rules.1 in_end sources_end is_done

@@ -12,4 +12,5 @@ pub mod Lasting
 mod Left
 mod Making
 mod Nothing
+mod Unread
 mod Room

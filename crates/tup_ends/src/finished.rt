@@ -13,7 +13,7 @@ ghost use Rattle.tup_runner.specs.Next.{Next};
 ghost use Rattle.tup_project.specs.Project.{ComeTo};
 ghost use Rattle.tup_table.specs.Table.{entries_in};
 ghost use Rattle.tup_graph.specs.Graph.{GraphState, is_flagged};
-ghost use Rattle.tup_graph.specs.Kept.{IsKept};
+ghost use Rattle.tup_graph.specs.Kept.{IsKept, IsKeptWorld};
 ghost use Rattle.tup_graph.specs.Opening.{IsGraphOf};
 ghost use Rattle.tup_graph.specs.Reach.{stamp_in};
 ghost use Rattle.tup_graph.specs.declared.owned.Owned.{Owned};
@@ -24,8 +24,9 @@ ghost use Rattle.tup_board.specs.Board.{BoardState, plan_of, state};
 ghost use Rattle.tup_board.specs.Sound.{IsSound};
 ghost use Rattle.tup_law_site.specs.Over.{IsKeptNow};
 ghost use Rattle.tup_law_phases.specs.Language.{tupfiles};
-ghost use Rattle.tup_promise.specs.Did.{RemovesWhatIsUnmade};
+ghost use Rattle.tup_promise.specs.Did.{ReadsWhatIsDue, RemovesWhatIsUnmade};
 ghost use Rattle.tup_promise.specs.Finished.{IsSettled, ExactlyTheFiles, IsFinished};
+ghost use Rattle.tup_promise.specs.Kept.{HaveTupfiles};
 ghost use Rattle.tup_promise.specs.Needed.{IsDueName};
 ghost use Rattle.tup_promise.specs.Prepared.{IsPrepared};
 
@@ -33,14 +34,16 @@ use tup_runner::Runner;
 use tup_site::Site;
 
 /// A law: a kept graph of which no rule is flagged, and a tree that is as the graph has seen it, are those of a finished
-/// project, where its rules are those that the sources ask for, no folder is to be read and each owned path is made by a rule.
+/// project, where its rules are those that the sources ask for, no folder is to be read, each has a Tupfile of which a reading is
+/// kept, and each owned path is made by a rule.
 pub fn finished_is_clean()
     ensures { (next : Next) (known : List Content) (h : GraphState) (tree : Tree)
         → IsKept next tupfiles known h → ((number : ℕ) → is_flagged h number ≡ false)
         → ((path : Names) → finite.get h.seen path ≡ stamp_in tree path)
         → ((path : Names) (owned : Owned) → finite.get h.owned path ≡ Some owned
         → owned.maker ≢ None)
-        → h.created ≡ finite.empty → ComeTo (sources_of h tree) (Ok h.rules)
+        → h.created ≡ finite.empty → HaveTupfiles (sources_of h tree) h
+        → ComeTo (sources_of h tree) (Ok h.rules)
         → IsKnown known → KnowsTree known tree → IsFinished next (sources_of h tree) h tree }
 {}
 
@@ -51,6 +54,13 @@ pub fn done_leaves_nothing_to_do()
         → ExactlyTheFiles next old new None → All (IsDueName new) ran → ran ≡ [] }
     ensures removes { (next : Next) (old new : World) (removed : List Names)
         → ExactlyTheFiles next old new None → RemovesWhatIsUnmade new removed → removed ≡ [] }
+{}
+
+/// A law: and such an update reads no Tupfile, where what was left is kept, and no two of the contents that are known have one stamp.
+pub fn done_leaves_nothing_to_read()
+    ensures { (next : Next) (known : List Content) (old new : World) (read : List Names)
+        → ExactlyTheFiles next old new None → IsKeptWorld next tupfiles known new
+        → IsKnown known → KnowsTree known new.tree → ReadsWhatIsDue new read → read ≡ [] }
 {}
 
 /// A law: an update that has no rule to run, once its graph is up to date, leaves exactly the files of a clean build.

@@ -14,8 +14,8 @@ mod states;
 
 pub use blamed::bad_rules_are_bad;
 pub use finished::{
-    done_is_finished, done_is_settled, done_leaves_nothing_to_do, finished_is_clean,
-    prepared_is_finished, prepared_is_settled,
+    done_is_finished, done_is_settled, done_leaves_nothing_to_do, done_leaves_nothing_to_read,
+    finished_is_clean, prepared_is_finished, prepared_is_settled,
 };
 pub use full::full_is_true;
 pub use kept::{boards_are_kept, boards_leave_crashes};

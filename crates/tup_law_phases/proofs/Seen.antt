@@ -1,11 +1,11 @@
 -- The sources of a tree that a graph has seen.
-use Rattle.std.proofs.Common.{◌≡◌, Bool, true, false, cond, not, if◌then◌else◌, List, [], Option, None, Some, IsSome, is_some, refl, sym, ap, subst, ◌∙◌}
+use Rattle.std.proofs.Common.{◌≡◌, Bool, true, false, cond, not, if◌then◌else◌, List, [], Option, None, Some, All, IsSome, is_some, refl, sym, ap, subst, ◌∙◌}
 use Rattle.std.specs.Cmp.{eq_by_cmp_equiv}
 use Rattle.std.specs.FinMap as finite
 use Rattle.std.specs.List.{Contains}
-use Rattle.std.specs.Prelude.{is_none}
+use Rattle.std.specs.Prelude.{is_none, option_to_list}
 use Rattle.std.specs.Option.{option_map}
-use Rattle.std.proofs.lemmas.List.Elements.{All-contains, All-contains_itself, All-weaker}
+use Rattle.std.proofs.lemmas.List.Elements.{All-cons, All-contains, All-contains_itself, All-nil, All-weaker}
 use Rattle.std.proofs.lemmas.Map.Views.{Contains-from_any, list_any-from_Contains}
 use Rattle.tup_path.specs.Name.{Names, Content, IsPath}
 use Rattle.tup_path.specs.Order.{by_names-total}
@@ -14,6 +14,7 @@ use Rattle.tup_path.proofs.Same.{by_names-decides}
 use Rattle.tup_stamp.specs.Stamp.{stamp}
 use Rattle.tup_site.specs.Known.{IsKnown, KnowsTree}
 use Rattle.tup_site.specs.World.{World}
+use Rattle.tup_graph.specs.Answers.{tup_config}
 use Rattle.tup_graph.specs.declared.owned.Owned.{Owned}
 use Rattle.tup_graph.specs.Graph.{GraphState, is_owned}
 use Rattle.tup_graph.specs.Kept.{file_beside}
@@ -90,3 +91,8 @@ core_knows known is one other here there same = is one other (known_there known 
 
 pub core_knows_tree : (known : List Content) (tree : Tree) (path : Names) (content : Content) → KnowsTree known tree → finite.get tree path ≡ Some content → Contains known content
 core_knows_tree known tree path content knows here = known_among known content (knows path content here)
+
+-- the content of tup.config that a scan found is known
+pub config_known : (known : List Content) (tree : Tree) (config : Option Content) → KnowsTree known tree → config ≡ finite.get tree tup_config → All (Contains known) (option_to_list config)
+config_known known tree None knows_tree is = All-nil (Contains known)
+config_known known tree (Some content) knows_tree is = All-cons (Contains known) content [] (known_among known content (knows_tree tup_config content (sym is))) (All-nil (Contains known))

@@ -46,9 +46,9 @@ use Rattle.tup_law_phases.specs.Language.{tupfiles}
 use Rattle.tup_law_phases.proofs.Fitting.{refresh_brings}
 use Rattle.tup_law_phases.proofs.Seen.{is_tree, knows_sources, sees}
 use Rattle.tup_law_phases.proofs.Tupfiles.{is_language}
-use Rattle.tup_law_phases.proofs.Unchanged.{comes_to}
+use Rattle.tup_law_phases.proofs.Unchanged.{comes_to, kept_tupfiles, refreshed_tupfiles}
 use Rattle.tup_promise.specs.Did.{IsNoted}
-use Rattle.tup_promise.specs.Kept.{AsksFor, OfGraph}
+use Rattle.tup_promise.specs.Kept.{AsksFor, HaveTupfiles, OfGraph}
 use Rattle.tup_promise.specs.Needed.{IsDue}
 use Rattle.tup_phases.specs.Kept.{BringsNothing, IsBrought, KeepsRun, KeepsRuns, StaysBrought}
 use Rattle.tup_phases.specs.Prepared.{HasSeen}
@@ -151,6 +151,7 @@ module _ (first now : World) (g : GraphState) (noted : IsNoted first now g) wher
     pub idle_brought : (found : Refreshed) → ((at : ℕ) → is_flagged was at ≡ true → is_rule was at ≡ true) → IsKept next tupfiles known g → BringsNothing g found → IsRefresh g sources (Ok found) → IsBrought first g
     idle_brought found flags kept nothing refreshed = record {
       created = nothing.created;
+      read = (was, noted.stored, kept_tupfiles g sources found nothing.fresh nothing.gone refreshed);
       rules = (was, noted.stored, comes_to g sources found nothing.fresh nothing.gone next tupfiles known is_language.1 kept refreshed);
       due = λ number. due_if first was noted.stored now.tree g.rules number (is_flagged g number ≡ true) noted.tree (reach number);
       unmade = (was, noted.stored, still_unmade was g kept.owners noted.scanned.1.owned);
@@ -168,6 +169,7 @@ module _ (first now : World) (g : GraphState) (noted : IsNoted first now g) wher
         → AreFitting tupfiles known g found.fresh found.gone rules → IsBrought first new
     swap_brought found rules new as_seen refreshed linked swapped fits = record {
       created = swapped.created;
+      read = (was, noted.stored, λ dir left here. refreshed_tupfiles g sources found refreshed dir left (sym (swapped.readings dir) ∙ here));
       rules = (was, noted.stored, subst (λ (l : List Rule). ComeTo sources (Ok l)) (sym swapped.rules_are) comes);
       due = λ number. due_if first was noted.stored now.tree new.rules number (is_flagged new number ≡ true) noted.tree (reach number);
       unmade = (was, noted.stored, swap_unmade known was g new noted.scanned.1.owned found.fresh found.gone rules fits swapped);
@@ -184,13 +186,18 @@ module _ (first now : World) (g : GraphState) (noted : IsNoted first now g) wher
 
 -- what stays so is brought still
 pub brought_on : (first : World) (g h : GraphState) → StaysBrought g h → IsBrought first g
-    → (h.created ≡ finite.empty) × AsksFor first h.rules × ((number : ℕ) → (is_flagged h number ≡ true) ↔ IsDue first h.rules number)
+    → (h.created ≡ finite.empty) × AsksFor first h.rules × ((number : ℕ) → (is_flagged h number ≡ true) ↔ IsDue first h.rules number) × OfGraph first (λ was. HaveTupfiles (sources_of was first.tree) h)
 brought_on first g h stays brought = (
   stays.created ∙ brought.created,
   subst (AsksFor first) (sym stays.rules) brought.rules,
   λ number. (
     λ flag. subst (λ (rules : List Rule). IsDue first rules number) (sym stays.rules) ((brought.due number).0 (sym (same number) ∙ flag)),
     λ due. same number ∙ (brought.due number).1 (subst (λ (rules : List Rule). IsDue first rules number) stays.rules due),
+  ),
+  (
+    brought.read.0,
+    brought.read.1,
+    λ dir left here. brought.read.2 dir left (sym (ap (λ (m : finite.FinMap by_names Reading). finite.get m dir) stays.readings) ∙ here),
   ),
 )
   where

@@ -1,14 +1,13 @@
 -- What the phases keep of a site that was kept.
-use Rattle.std.proofs.Common.{◌≡◌, ℕ, ◌≤◌, List, [], Option, None, Some, All, Contains, IsTrue, true, false, sym, ap, subst, ◌∙◌, arith}
+use Rattle.std.proofs.Common.{◌≡◌, ℕ, ◌≤◌, List, [], Option, Some, All, Contains, IsTrue, true, false, sym, ap, subst, ◌∙◌, arith}
 use Rattle.std.specs.Prelude.{option_to_list}
 use Rattle.std.specs.FinMap as finite
-use Rattle.std.proofs.lemmas.List.Elements.{All-cons, All-nil}
 use Rattle.tup_path.specs.Name.{Names, Content}
 use Rattle.tup_path.specs.Tree.{Tree}
 use Rattle.tup_path.proofs.Same.{same_tree}
 use Rattle.tup_stamp.specs.declared.Stamp.{Stamp}
 use Rattle.tup_site.specs.Crash.{GoesOn, NoStep}
-use Rattle.tup_site.specs.Known.{Keeps, KnowsTree, knows}
+use Rattle.tup_site.specs.Known.{Keeps, knows}
 use Rattle.tup_site.specs.World.{World, TreeStays}
 use Rattle.tup_site.specs.declared.site.Site.{Ghosts as Site}
 use Rattle.tup_rule.specs.Rule.{among}
@@ -19,7 +18,6 @@ use Rattle.tup_runner.specs.Next.{Next}
 use Rattle.tup_table.specs.Images.{OpenStep}
 use Rattle.tup_table.specs.Table.{entries_in}
 use Rattle.tup_table.proofs.Going.{as_step, then_on}
-use Rattle.tup_graph.specs.Answers.{tup_config}
 use Rattle.tup_graph.specs.Graph.{GraphState, is_owned}
 use Rattle.tup_graph.specs.Kept.{Asked, IsGraphIn, IsKept, IsKeptSite, IsUnflagged, file_beside}
 use Rattle.tup_graph.specs.Opening.{IsGraphOf}
@@ -34,7 +32,6 @@ use Rattle.tup_law_site.proofs.Laws.{before, keeps_read, keeps_scan, keeps_swap,
 use Rattle.tup_law_site.proofs.Opened.{opened_remains}
 use Rattle.tup_law_site.proofs.Remaining.{remains_now, sources_before}
 use Rattle.tup_law_site.proofs.Stores.{one_in_bytes}
-use Rattle.tup_refresh.proofs.Recording.{known_among}
 use Rattle.tup_stale.specs.Crash.{ClearStep, LeavesBy}
 use Rattle.tup_stale.specs.Cleared.{SparesUsers}
 use Rattle.tup_stale.specs.Files.{SameBeside}
@@ -49,11 +46,6 @@ use Rattle.tup_law_phases.proofs.Seen.{is_beside, sees}
 use Rattle.tup_promise.specs.Kept.{AsksFor}
 use Rattle.tup_phases.specs.Kept.{IsKeptSince, KeepsOn, LeavesFiles}
 use Rattle.tup_phases.specs.Prepared.{HasSeen}
-
--- the content of tup.config that a scan found is known
-pub config_known : (known : List Content) (tree : Tree) (config : Option Content) → KnowsTree known tree → config ≡ finite.get tree tup_config → All (Contains known) (option_to_list config)
-config_known known tree None knows_tree is = All-nil (Contains known)
-config_known known tree (Some content) knows_tree is = All-cons (Contains known) content [] (known_among known content (knows_tree tup_config content (sym is))) (All-nil (Contains known))
 
 -- contents that are known still
 pub keeps_same : (old new : List Content) → new ≡ old → Keeps old new

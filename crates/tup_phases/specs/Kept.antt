@@ -13,10 +13,11 @@ use Rattle.tup_graph.specs.Graph.{GraphState, is_flagged}
 use Rattle.tup_graph.specs.Kept.{IsGraphIn, IsKeptSite, IsRuleAt}
 use Rattle.tup_graph.specs.Swap.{IsNew}
 use Rattle.tup_refresh.specs.declared.refreshed.Refreshed.{Refreshed}
+use Rattle.tup_ledger.specs.Sources.{sources_of}
 use Rattle.tup_law_phases.specs.Language.{tupfiles}
 use Rattle.tup_promise.specs.Blamed.{HasFileOf, IsFaultOf}
 use Rattle.tup_promise.specs.Crashes.{OwnsNoMore}
-use Rattle.tup_promise.specs.Kept.{AsksFor, OfGraph}
+use Rattle.tup_promise.specs.Kept.{AsksFor, HaveTupfiles, OfGraph}
 use Rattle.tup_promise.specs.Needed.{IsDue}
 use Rattle.tup_promise.specs.States.{KeepsStates, StateStays}
 use Rattle.tup_promise.specs.Users.{IsFirstUsersFile}
@@ -59,10 +60,11 @@ KeepsRun was now number rule =
 abbrev pub KeepsRuns : GraphState → GraphState → Type 0
 KeepsRuns was now = (number : ℕ) (rule : Rule) → IsRuleAt now number rule → KeepsRun was now number rule
 
--- no folder is to be read, the rules are those that the sources of a world ask for, with the records that they had, just those that
--- are due there are flagged, and the paths that none of them makes are owned as they were
+-- no folder is to be read, and each has a Tupfile of which a reading is kept; the rules are those that the sources of a world ask for,
+-- with the records that they had, just those that are due there are flagged, and the paths that none of them makes are owned as they were
 pub record IsBrought (first : World) (g : GraphState) : Type 0 where
   pub created : g.created ≡ finite.empty
+  pub read : OfGraph first (λ was. HaveTupfiles (sources_of was first.tree) g)
   pub rules : AsksFor first g.rules
   pub due : (number : ℕ) → (is_flagged g number ≡ true) ↔ IsDue first g.rules number
   pub unmade : OfGraph first (λ was. KeepsUnmade was g)
@@ -74,9 +76,10 @@ pub record BringsNothing (g : GraphState) (given : Refreshed) : Type 0 where
   pub fresh : given.fresh ≡ []
   pub gone : given.gone ≡ []
 
--- the rules stay, their records, which of them are to be run, and which folders are to be read
+-- the rules stay, their records, which of them are to be run, what was read, and which folders are to be read
 pub record StaysBrought (old new : GraphState) : Type 0 where
   pub created : new.created ≡ old.created
+  pub readings : new.readings ≡ old.readings
   pub rules : new.rules ≡ old.rules
   pub runs : new.runs ≡ old.runs
   pub flags : new.flags ≡ old.flags

@@ -17,7 +17,7 @@ use Rattle.tup_graph.specs.Graph.{GraphState, is_owned}
 use Rattle.tup_graph.specs.Reach.{stamp_in, IsReached}
 use Rattle.tup_ledger.specs.Sources.{IsDurable, sources_of}
 use Rattle.tup_law_site.specs.Over.{LeftNow}
-use Rattle.tup_promise.specs.Kept.{OfGraph}
+use Rattle.tup_promise.specs.Kept.{HaveTupfiles, OfGraph}
 use Rattle.tup_promise.specs.declared.stop.Stop.{Stop}
 
 -- an owned path is written with the stamp of the file that stands there
@@ -35,6 +35,9 @@ pub record IsFinished (next : Next) (sources : Tree) (h : GraphState) (tree : Tr
   -- the outputs of the rules are owned, and nothing else is; each is written as it stands
   pub owned : (path : Names) → is_owned h path ≡ is_generated h.rules path
   pub written : (path : Names) (owner : Owned) → finite.get h.owned path ≡ Some owner → IsAsWritten tree path owner
+  -- each file was seen as it is, and each folder of which a reading is kept has a Tupfile
+  pub seen : (path : Names) → finite.get h.seen path ≡ stamp_in tree path
+  pub read : HaveTupfiles sources h
   -- no folder is to be read, and no rule to be run
   pub created : h.created ≡ finite.empty
   pub none_due : (asked : List Rule) (at : ℕ) → ComeTo sources (Ok asked) → IsReached h tree asked at → ⊥

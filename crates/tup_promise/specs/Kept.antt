@@ -1,8 +1,13 @@
 -- What the promises of an update rest on: a kept site, and the rules that its sources ask for (own).
-use Rattle.std.specs.Prelude.{List, Ok, IsTrue}
+use Rattle.std.specs.Prelude.{◌≡◌, List, Some, Ok, IsTrue}
+use Rattle.std.specs.FinMap as finite
+use Rattle.tup_path.specs.Name.{Names}
+use Rattle.tup_path.specs.Tree.{Tree}
 use Rattle.tup_site.specs.World.{World}
 use Rattle.tup_site.specs.declared.site.Site.{Ghosts as Site}
+use Rattle.tup_rule.specs.declared.question.Reading.{Reading}
 use Rattle.tup_rule.specs.declared.rule.Rule.{Rule}
+use Rattle.tup_readings.specs.Sources.{has_tupfile}
 use Rattle.tup_runner.specs.Next.{Next}
 use Rattle.tup_runner.specs.declared.runner.Runner.{Ghosts as Runner}
 use Rattle.tup_project.specs.Project.{ComeTo}
@@ -19,6 +24,10 @@ OfGraph w Property = (g : GraphState) × IsGraphIn w.store g × Property g
 -- the sources of a world, which are its files that aren't owned, ask for these rules
 abbrev pub AsksFor : World → List Rule → Type 0
 AsksFor w rules = OfGraph w (λ g. ComeTo (sources_of g w.tree) (Ok rules))
+
+-- each folder of which a graph keeps a reading has a Tupfile among these sources
+abbrev pub HaveTupfiles : Tree → GraphState → Type 0
+HaveTupfiles sources g = (dir : Names) (reading : Reading) → finite.get g.readings dir ≡ Some reading → IsTrue (has_tupfile sources dir)
 
 -- a site is kept, and it and a runner tell: the site what it holds, the runner what its commands mean
 pub record KeptHere {S R : Type 0} (site : Site S) (runner : Runner R) (at : S) : Type 0 where

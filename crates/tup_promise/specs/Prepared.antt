@@ -9,9 +9,10 @@ use Rattle.tup_graph.specs.declared.owned.Owned.{Owned}
 use Rattle.tup_graph.specs.Graph.{is_flagged}
 use Rattle.tup_graph.specs.Reach.{stamp_in}
 use Rattle.tup_stored_graph.specs.Held.{Held}
+use Rattle.tup_ledger.specs.Sources.{sources_of}
 use Rattle.tup_law_site.specs.Over.{IsKeptNow, StandsOver}
 use Rattle.tup_law_phases.specs.Language.{tupfiles}
-use Rattle.tup_promise.specs.Kept.{AsksFor}
+use Rattle.tup_promise.specs.Kept.{AsksFor, HaveTupfiles, OfGraph}
 use Rattle.tup_promise.specs.Needed.{IsDue}
 
 -- a graph over a site is up to date with the world that the update began with, and only rules are left to be run
@@ -24,6 +25,8 @@ pub record IsPrepared {S : Type 0} (site : Site S) (next : Next) (first : World)
   pub created : graph.nodes.created ≡ finite.empty
   pub seen : (path : Names) → finite.get graph.nodes.seen path ≡ stamp_in (site.world at).tree path
   pub made : (path : Names) (owned : Owned) → finite.get graph.nodes.owned path ≡ Some owned → owned.maker ≢ None
+  -- each folder of which a reading is kept has a Tupfile
+  pub read : OfGraph first (λ was. HaveTupfiles (sources_of was first.tree) graph.nodes)
   -- the rules are those that the sources ask for, and just those that are due are flagged
   pub rules : AsksFor first graph.nodes.rules
   pub due : (number : ℕ) → (is_flagged graph.nodes number ≡ true) ↔ IsDue first graph.nodes.rules number

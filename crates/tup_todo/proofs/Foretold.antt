@@ -1,5 +1,5 @@
 -- What was listed is what an update does that begins there.
-use Rattle.std.proofs.Common.{◌≡◌, inl, ℕ, Bool, zero, suc, true, List, [], ◌∷◌, Option, None, Some, is_some, Ok, refl, sym, ap, subst, arith}
+use Rattle.std.proofs.Common.{◌≡◌, inl, ℕ, Bool, zero, suc, true, List, [], ◌∷◌, Option, None, Some, is_some, Ok, IsTrue, refl, sym, ap, subst, ◌∙◌, arith}
 use Rattle.std.specs.Cmp.{nat_cmp_total}
 use Rattle.std.specs.FinMap as finite
 use Rattle.std.specs.FinMap.{nat_cmp-IsAntisymmetric}
@@ -12,6 +12,7 @@ use Rattle.tup_site.specs.World.{World}
 use Rattle.tup_rule.specs.Rule.{name_of}
 use Rattle.tup_rule.specs.declared.rule.Rule.{Rule}
 use Rattle.tup_rule.specs.declared.rule.RuleName.{RuleName}
+use Rattle.tup_readings.specs.Sources.{has_tupfile}
 use Rattle.tup_runner.specs.Next.{Next}
 use Rattle.tup_project.specs.Project.{ComeTo}
 use Rattle.tup_graph.specs.Graph.{GraphState, is_flagged}
@@ -22,7 +23,7 @@ use Rattle.tup_law_graph.proofs.Lists.{flat_map_in, in_flat_map}
 use Rattle.tup_law_site.proofs.Stores.{one_in_bytes}
 use Rattle.tup_law_phases.specs.Language.{tupfiles}
 use Rattle.tup_promise.specs.Did.{DidBoth, ReadAndRemoved}
-use Rattle.tup_promise.specs.Kept.{AsksFor, OfGraph}
+use Rattle.tup_promise.specs.Kept.{AsksFor, HaveTupfiles, OfGraph}
 use Rattle.tup_promise.specs.Needed.{HasName, IsDue, IsDueName, NamesAllDue, RunsAll, RunsWhatIsNeeded}
 use Rattle.tup_promise.specs.declared.log.Log.{Log}
 use Rattle.tup_promise.specs.declared.stop.Stop.{Stop}
@@ -48,11 +49,19 @@ asked_still old new rules (g, mine, (h, theirs, same)) (k, reads, come) = (
       (subst (λ (x : GraphState). ComeTo (sources_of x old.tree) (Ok rules)) (one_in_bytes old.store k g reads mine) come),
 )
 
+-- and each folder has a Tupfile of which a reading is kept
+pub read_still : (old new : World) (g : GraphState) → IsGraphIn new.store g → OfGraph old (λ g. OfGraph new (λ h. sources_of h new.tree ≡ sources_of g old.tree)) → OfGraph old (λ was. HaveTupfiles (sources_of was old.tree) g) → HaveTupfiles (sources_of g new.tree) g
+read_still old new g stored (k, mine, (h, theirs, same)) (was, reads, read) dir left here =
+    subst (λ (tree : Tree). IsTrue (has_tupfile tree dir))
+    (ap (λ (x : GraphState). sources_of x old.tree) (one_in_bytes old.store was k reads mine) ∙ sym same ∙ ap (λ (x : GraphState). sources_of x new.tree) (one_in_bytes new.store h g theirs stored))
+    (read dir left here)
+
 -- a kept graph that stands in a world is up to date there, where it has the rules that the sources ask for, and just those are flagged that are due
 pub brought_there : (next : Next) (known : List Content) (w : World) (g : GraphState) → IsKept next tupfiles known g → IsGraphIn w.store g → g.created ≡ finite.empty → AsksFor w g.rules
-    → ((number : ℕ) → (is_flagged g number ≡ true) ↔ IsDue w g.rules number) → IsBrought w g
-brought_there next known w g kept stored created asked due = record {
+    → ((number : ℕ) → (is_flagged g number ≡ true) ↔ IsDue w g.rules number) → HaveTupfiles (sources_of g w.tree) g → IsBrought w g
+brought_there next known w g kept stored created asked due read = record {
   created = created;
+  read = (g, stored, read);
   rules = asked;
   due = due;
   unmade = (g, stored, still_unmade g g kept.owners refl);

@@ -95,7 +95,7 @@ returns-clause-present g c = λ tells next first since asks kept here.
 pub returns-clause-stays : goal.returns-clause-stays
 returns-clause-stays g c =
     let is = c.in_ok-log.ensures.leaves.0 in
-    record { created = ap (λ (h : Held). h.nodes.created) is; rules = ap (λ (h : Held). h.nodes.rules) is; runs = ap (λ (h : Held). h.nodes.runs) is; flags = ap (λ (h : Held). h.nodes.flags) is }
+    record { created = ap (λ (h : Held). h.nodes.created) is; readings = ap (λ (h : Held). h.nodes.readings) is; rules = ap (λ (h : Held). h.nodes.rules) is; runs = ap (λ (h : Held). h.nodes.runs) is; flags = ap (λ (h : Held). h.nodes.flags) is }
 
 pub returns-clause-graph : goal.returns-clause-graph
 returns-clause-graph g c = c.clear.ensures.graph c.in_ok-log.ensures.fresh

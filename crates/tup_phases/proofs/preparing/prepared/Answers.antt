@@ -234,6 +234,7 @@ returns-clause-prepared g c = λ tells next kept.
       created = it.0;
       seen = c.in_ok-cleared.ensures.seen tells;
       made = c.in_ok-cleared.ensures.made;
+      read = it.3;
       rules = it.1;
       due = it.2;
     }

@@ -8,7 +8,8 @@ use Rattle.tup_phases.proofs.Blaming.{graph_blames, scan_blames}
 use Rattle.tup_graph.specs.Scan.{IsScanned}
 use Rattle.tup_site.specs.Crash.{NoStep}
 use Rattle.tup_commit.specs.Crash.{NoteStep}
-use Rattle.tup_phases.proofs.Keeping.{first_kept, config_known, files_both, files_read, noted_keeps, since_read, trees_both, trees_by}
+use Rattle.tup_phases.proofs.Keeping.{first_kept, files_both, files_read, noted_keeps, since_read, trees_both, trees_by}
+use Rattle.tup_law_phases.proofs.Seen.{config_known}
 use Rattle.tup_phases.proofs.Within.{noted_within, over_within, own_within, scan_within}
 use Rattle.tup_table.specs.Table.{entries_in}
 use Rattle.tup_graph.specs.Opening.{IsGraphOf}

@@ -16,7 +16,7 @@ use Rattle.tup_phases.proofs.Removing.{removes_these}
 use Rattle.tup_phases.proofs.Within.{own_within}
 use Rattle.tup_todo.specs.Listing.{due_rules, vanished}
 use Rattle.tup_todo.specs.Lists.{GoesOnFromStore}
-use Rattle.tup_todo.proofs.Foretold.{asked_still, brought_there}
+use Rattle.tup_todo.proofs.Foretold.{asked_still, brought_there, read_still}
 use Rattle.tup_todo.proofs.Listed.{vanished_stand}
 use Rattle.tup_todo.proofs.todo.todo_site.Goals as goal
 
@@ -212,10 +212,12 @@ returns-clause-lists g c = λ tells next kept.
     let here = own_within left graph.nodes stored (c.flags_are_of_rules.ensures (entries_of stored.commits) graph.nodes stored.graph) in
     let removes_are = c.in_ok-removes.ensures ∙ ap vanished c.nodes.ensures.value ∙ vanished_stand graph.nodes left.tree seen in
     let sources = returns-clause-sources_stay g c tells (next, kept) in
-    let still = asked_still first left graph.nodes.rules (sources.each left (site_laws.earlier at since (g.S.Site.moment at) left tells sources.later (site_laws.present at tells))) brought.rules in
+    let same = sources.each left (site_laws.earlier at since (g.S.Site.moment at) left tells sources.later (site_laws.present at tells)) in
+    let still = asked_still first left graph.nodes.rules same brought.rules in
     let again =
     brought_there next known left graph.nodes is_kept stored brought.created still
-    (λ number. (here.due number, due_flagged next known left graph.nodes is_kept (λ path _. seen path) stored number)) in
+    (λ number. (here.due number, due_flagged next known left graph.nodes is_kept (λ path _. seen path) stored number))
+    (read_still first left graph.nodes stored same brought.read) in
     record {
       graph = graph.nodes;
       stored = stored;
