@@ -12,5 +12,5 @@ pub mod Lasting
 mod Left
 mod Making
 mod Nothing
-mod Unread
+pub mod Unread
 mod Room

@@ -14,7 +14,7 @@ use Rattle.tup_stamp.specs.Stamp.{stamp}
 use Rattle.tup_site.specs.Known.{IsKnown, KnowsTree}
 use Rattle.tup_site.specs.World.{World}
 use Rattle.tup_rule.specs.declared.question.Noted.{Noted}
-use Rattle.tup_rule.specs.declared.question.Noted.TheVariants as kept
+use Rattle.tup_rule.specs.declared.question.Noted.TheVariants as notes
 use Rattle.tup_rule.specs.declared.question.Question.{Question}
 use Rattle.tup_rule.specs.declared.question.Question.TheVariants as asks
 use Rattle.tup_rule.specs.declared.question.Reading.{Reading}
@@ -56,22 +56,22 @@ module _ (known fewer : List Content) (sources : Sources) (readings : Readings) 
   set_still (Some found) at name value (content, entries, there, same, reads, is) = (content, entries, also found content at there same, same, reads, is)
 
   answer_still : (question : Question) (noted : Noted) → IsAnswer known sources readings reader question noted → IsAnswer fewer sources readings reader question noted
-  answer_still (asks.Content path) (kept.Content seen) is = is
-  answer_still (asks.Content path) (kept.Config value) is = absurd is
-  answer_still (asks.Content path) (kept.Names names) is = absurd is
-  answer_still (asks.Content path) (kept.Kind kind) is = absurd is
-  answer_still (asks.Config name) (kept.Content seen) is = absurd is
-  answer_still (asks.Config name) (kept.Config value) is = set_still (sources tup_config) refl name value is
-  answer_still (asks.Config name) (kept.Names names) is = absurd is
-  answer_still (asks.Config name) (kept.Kind kind) is = absurd is
-  answer_still (asks.Names dir) (kept.Content seen) is = absurd is
-  answer_still (asks.Names dir) (kept.Config value) is = absurd is
-  answer_still (asks.Names dir) (kept.Names names) is = is
-  answer_still (asks.Names dir) (kept.Kind kind) is = absurd is
-  answer_still (asks.Kind path) (kept.Content seen) is = absurd is
-  answer_still (asks.Kind path) (kept.Config value) is = absurd is
-  answer_still (asks.Kind path) (kept.Names names) is = absurd is
-  answer_still (asks.Kind path) (kept.Kind kind) is = is
+  answer_still (asks.Content path) (notes.Content seen) is = is
+  answer_still (asks.Content path) (notes.Config value) is = absurd is
+  answer_still (asks.Content path) (notes.Names names) is = absurd is
+  answer_still (asks.Content path) (notes.Kind kind) is = absurd is
+  answer_still (asks.Config name) (notes.Content seen) is = absurd is
+  answer_still (asks.Config name) (notes.Config value) is = set_still (sources tup_config) refl name value is
+  answer_still (asks.Config name) (notes.Names names) is = absurd is
+  answer_still (asks.Config name) (notes.Kind kind) is = absurd is
+  answer_still (asks.Names dir) (notes.Content seen) is = absurd is
+  answer_still (asks.Names dir) (notes.Config value) is = absurd is
+  answer_still (asks.Names dir) (notes.Names names) is = is
+  answer_still (asks.Names dir) (notes.Kind kind) is = absurd is
+  answer_still (asks.Kind path) (notes.Content seen) is = absurd is
+  answer_still (asks.Kind path) (notes.Config value) is = absurd is
+  answer_still (asks.Kind path) (notes.Names names) is = absurd is
+  answer_still (asks.Kind path) (notes.Kind kind) is = is
 
 -- ---- a kept graph in the store of a world, which has seen the files as they are and marks no folder
 module _ (next : Next) (known : List Content) (w : World) (h : GraphState) (stored : IsGraphIn w.store h) (is_kept : IsKept next tupfiles known h) (apart : IsKnown known) (knows : KnowsTree known w.tree)

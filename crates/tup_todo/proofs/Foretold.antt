@@ -8,6 +8,7 @@ use Rattle.std.proofs.lemmas.Bool.{false≢true}
 use Rattle.std.proofs.lemmas.List.Elements.{All-contains}
 use Rattle.tup_path.specs.Name.{Names, Content}
 use Rattle.tup_path.specs.Tree.{Tree}
+use Rattle.tup_site.specs.Known.{IsKnown, KnowsTree}
 use Rattle.tup_site.specs.World.{World}
 use Rattle.tup_rule.specs.Rule.{name_of}
 use Rattle.tup_rule.specs.declared.rule.Rule.{Rule}
@@ -16,19 +17,20 @@ use Rattle.tup_readings.specs.Sources.{has_tupfile}
 use Rattle.tup_runner.specs.Next.{Next}
 use Rattle.tup_project.specs.Project.{ComeTo}
 use Rattle.tup_graph.specs.Graph.{GraphState, is_flagged}
-use Rattle.tup_graph.specs.Kept.{IsGraphIn, IsKept}
+use Rattle.tup_graph.specs.Kept.{IsGraphIn, IsKept, IsKeptWorld}
 use Rattle.tup_readers.proofs.Entries.{entry_found, found_entry, none_in}
 use Rattle.tup_ledger.specs.Sources.{sources_of}
 use Rattle.tup_law_graph.proofs.Lists.{flat_map_in, in_flat_map}
 use Rattle.tup_law_site.proofs.Stores.{one_in_bytes}
 use Rattle.tup_law_phases.specs.Language.{tupfiles}
-use Rattle.tup_promise.specs.Did.{DidBoth, ReadAndRemoved}
+use Rattle.tup_promise.specs.Did.{DidBoth, ReadAndRemoved, ReadsWhatIsDue}
 use Rattle.tup_promise.specs.Kept.{AsksFor, HaveTupfiles, OfGraph}
 use Rattle.tup_promise.specs.Needed.{HasName, IsDue, IsDueName, NamesAllDue, RunsAll, RunsWhatIsNeeded}
 use Rattle.tup_promise.specs.declared.log.Log.{Log}
 use Rattle.tup_promise.specs.declared.stop.Stop.{Stop}
 use Rattle.tup_promise.proofs.Asked.{one_asked}
 use Rattle.tup_ends.proofs.Names.{contains_at}
+use Rattle.tup_ends.proofs.Unread.{none_read}
 use Rattle.tup_phases.specs.Kept.{IsBrought}
 use Rattle.tup_phases.proofs.Users.{still_unmade}
 use Rattle.tup_todo.specs.Behind.{DoesWhatWasListed, IsListed}
@@ -130,3 +132,8 @@ module _ (old left : World) (todo : Todo) (lists : ListsWhatIsDue old left todo)
         let both : DidBoth left log = subst (ReadAndRemoved left log) none did in
         (λ gone. (lists.goes.just path).1 ((both.1.just path).0 gone), λ listed. (both.1.just path).1 ((lists.goes.just path).0 listed));
   }
+
+  -- and it reads no Tupfile
+  pub listed_read : (next : Next) (known : List Content) → IsKeptWorld next tupfiles known left → IsKnown known → KnowsTree known left.tree → (read : List Names) → ReadsWhatIsDue left read → read ≡ []
+  listed_read next known kept apart knows read reads =
+      none_read next known left lists.graph lists.stored (subst (IsKept next tupfiles known) (one_in_bytes left.store kept.graph lists.graph kept.reads lists.stored) kept.kept) apart knows lists.created lists.seen lists.all_read read reads

@@ -1,10 +1,14 @@
 -- What the lists of what an update would do have to do with a kept site (own).
 use Rattle.std.specs.Prelude.{◌≡◌, ◌↔◌, ℕ, true, [], Option}
+use Rattle.std.specs.FinMap as finite
+use Rattle.tup_path.specs.Name.{Names}
 use Rattle.tup_site.specs.World.{World}
 use Rattle.tup_graph.specs.Graph.{GraphState, is_flagged}
 use Rattle.tup_graph.specs.Kept.{IsGraphIn}
+use Rattle.tup_graph.specs.Reach.{stamp_in}
+use Rattle.tup_ledger.specs.Sources.{sources_of}
 use Rattle.tup_promise.specs.Did.{ReadsWhatIsDue, RemovesWhatIsUnmade}
-use Rattle.tup_promise.specs.Kept.{AsksFor}
+use Rattle.tup_promise.specs.Kept.{AsksFor, HaveTupfiles}
 use Rattle.tup_promise.specs.Needed.{IsDue}
 use Rattle.tup_promise.specs.Unopened.{Unopened}
 use Rattle.tup_promise.specs.declared.log.Log.{Log}
@@ -22,6 +26,10 @@ pub record ListsWhatIsDue (old new : World) (todo : Todo) : Type 0 where
   -- just those of them are flagged that are due in the one world, and just those that are due in the other
   pub due : (number : ℕ) → (is_flagged graph number ≡ true) ↔ IsDue old graph.rules number
   pub again : (number : ℕ) → (is_flagged graph number ≡ true) ↔ IsDue new graph.rules number
+  -- no folder is left to be read: none is marked, each file was seen as it is, and each folder of which a reading is kept has a Tupfile
+  pub created : graph.created ≡ finite.empty
+  pub seen : (path : Names) → finite.get graph.seen path ≡ stamp_in new.tree path
+  pub all_read : HaveTupfiles (sources_of graph new.tree) graph
   -- they are listed in the order of the rules
   pub runs : todo.runs ≡ due_rules graph
   -- just the folders are listed as read whose Tupfile had to be read, and just the files that an update has to remove, in both worlds

@@ -9,6 +9,6 @@ mod behind;
 mod listing;
 mod todo;
 
-pub use behind::what_is_listed_is_done;
+pub use behind::{what_is_listed_is_done, what_is_listed_was_read};
 pub use listing::DueRule;
 pub use todo::{Todo, todo_site};

@@ -214,10 +214,11 @@ returns-clause-lists g c = λ tells next kept.
     let sources = returns-clause-sources_stay g c tells (next, kept) in
     let same = sources.each left (site_laws.earlier at since (g.S.Site.moment at) left tells sources.later (site_laws.present at tells)) in
     let still = asked_still first left graph.nodes.rules same brought.rules in
+    let all_read = read_still first left graph.nodes stored same brought.read in
     let again =
     brought_there next known left graph.nodes is_kept stored brought.created still
     (λ number. (here.due number, due_flagged next known left graph.nodes is_kept (λ path _. seen path) stored number))
-    (read_still first left graph.nodes stored same brought.read) in
+    all_read in
     record {
       graph = graph.nodes;
       stored = stored;
@@ -225,6 +226,9 @@ returns-clause-lists g c = λ tells next kept.
       still = still;
       due = brought.due;
       again = again.due;
+      created = brought.created;
+      seen = seen;
+      all_read = all_read;
       runs = c.in_ok-runs.ensures ∙ ap due_rules c.nodes-2.ensures.value;
       read = c.in_ok-graph.ensures.reads tells next kept;
       removes = removes_these first graph.nodes left.tree brought (c.surveyed.ensures.files tells).tree _ removes_are;
