@@ -7,9 +7,9 @@ use Rattle.tup_field.specs.Parts.{◌&◌}
 
 -- what a write tells
 abbrev pub IsWritten : {A : Type 0} → Format A → A → List ℕ → List ℕ → Result (Unit {0}) RecordFault → Type 0
-IsWritten f a old new result = MatchResult result (λ _. f.Fits a × (new ≡ old ++ f.spelling a)) (IsUnwritten (f.Fits a))
+IsWritten f a old new result = MatchResult result (λ _. f.Fits a × (new ≡ old ++ f.spelling a)) (IsUnwritten (f.Writable a))
 
-refused : {A B : Type 0} (f : Format A) (g : Format B) (a : A) (b : B) (fault : RecordFault) → IsUnwritten (g.Fits b) fault → IsUnwritten ((f & g).Fits (a, b)) fault
+refused : {A B : Type 0} (f : Format A) (g : Format B) (a : A) (b : B) (fault : RecordFault) → IsUnwritten (g.Writable b) fault → IsUnwritten ((f & g).Writable (a, b)) fault
 refused f g a b fault (inl memory) = inl memory
 refused f g a b fault (inr bad) = inr (bad.0, λ fits. bad.1 fits.1)
 

@@ -13,9 +13,11 @@ abbrev pub ◌>>=◌ : {A B : Type 0} → Result A RecordFault → (A → Result
 (Ok x) >>= f = f x
 (Err fault) >>= f = Err fault
 
--- which values have a spelling, their spellings, and how they are read
+-- which values have a spelling, which aren't refused for a length, their spellings, and how they are read
 pub record Format (A : Type 0) : Type 1 where
   pub Fits : A → Type 0
+  -- no text of it has 2^32 bytes or more, and no list of it 2^32 members or more
+  pub Writable : A → Type 0
   pub spelling : A → List ℕ
   pub reading : List ℕ → Read A
 
@@ -23,9 +25,9 @@ pub record Format (A : Type 0) : Type 1 where
 abbrev pub IsBytes : List ℕ → Type 0
 IsBytes bytes = (i : ℕ) → slice_index bytes i < 256
 
--- why a value isn't written: there was no memory, or it has no spelling
+-- why a value isn't written: there was no memory, or it isn't writable
 abbrev pub IsUnwritten : Type 0 → RecordFault → Type 0
-IsUnwritten Fits fault = (fault ≡ Memory) ⊎ ((fault ≡ BadField) × (¬ Fits))
+IsUnwritten Writable fault = (fault ≡ Memory) ⊎ ((fault ≡ BadField) × (¬ Writable))
 
 -- what was read, with more bytes behind it
 abbrev pub carry : {A : Type 0} → List ℕ → Read A → Read A

@@ -24,19 +24,19 @@ number_at bytes = do
 
 -- so many bytes, as they are
 abbrev pub fixed : ℕ → Format (List ℕ)
-fixed n = record { Fits = λ bytes. length bytes ≡ n; spelling = λ bytes. bytes; reading = taken n }
+fixed n = record { Fits = λ bytes. length bytes ≡ n; Writable = λ _. Unit {0}; spelling = λ bytes. bytes; reading = taken n }
 
 -- one byte
 abbrev pub byte : Format ℕ
-byte = record { Fits = λ b. b < 256; spelling = λ b. b ∷ []; reading = byte_at }
+byte = record { Fits = λ b. b < 256; Writable = λ _. Unit {0}; spelling = λ b. b ∷ []; reading = byte_at }
 
 -- four bytes
 abbrev pub number : Format ℕ
-number = record { Fits = λ n. n < 2 ^ 32; spelling = to_be_bytes w32; reading = number_at }
+number = record { Fits = λ n. n < 2 ^ 32; Writable = λ _. Unit {0}; spelling = to_be_bytes w32; reading = number_at }
 
 -- no bytes
 abbrev pub empty : Format (Unit {0})
-empty = record { Fits = λ _. Unit {0}; spelling = λ _. []; reading = λ bytes. Ok (tt, bytes) }
+empty = record { Fits = λ _. Unit {0}; Writable = λ _. Unit {0}; spelling = λ _. []; reading = λ bytes. Ok (tt, bytes) }
 
 -- ---- one behind another
 
@@ -44,6 +44,7 @@ empty = record { Fits = λ _. Unit {0}; spelling = λ _. []; reading = λ bytes.
 abbrev pub depending : {A B : Type 0} → Format A → (A → Format B) → Format (A × B)
 depending f g = record {
   Fits = λ x. f.Fits x.0 × (g x.0).Fits x.1;
+  Writable = λ x. f.Writable x.0 × (g x.0).Writable x.1;
   spelling = λ x. f.spelling x.0 ++ (g x.0).spelling x.1;
   reading = λ bytes. do
     a ← f.reading bytes
@@ -60,6 +61,7 @@ f & g = depending f (λ _. g)
 abbrev pub as_if : {A B : Type 0} → (A → B) → (B → A) → Format A → Format B
 as_if to from f = record {
   Fits = λ b. f.Fits (from b);
+  Writable = λ b. f.Writable (from b);
   spelling = λ b. f.spelling (from b);
   reading = λ bytes. do
     a ← f.reading bytes
@@ -70,15 +72,16 @@ as_if to from f = record {
 abbrev pub checked : {A : Type 0} → (A → Bool) → Format A → Format A
 checked test f = record {
   Fits = λ a. f.Fits a × (test a ≡ true);
+  Writable = f.Writable;
   spelling = f.spelling;
   reading = λ bytes. do
     a ← f.reading bytes
     if test a.0 then Ok a else Err BadField;
 }
 
--- the same, with other words for the values that have a spelling
+-- the same, with other words for the values that have a spelling, none of which is refused
 abbrev pub fitting : {A : Type 0} → (A → Type 0) → Format A → Format A
-fitting Fits f = record { Fits = Fits; spelling = f.spelling; reading = f.reading }
+fitting Fits f = record { Fits = Fits; Writable = λ _. Unit {0}; spelling = f.spelling; reading = f.reading }
 
 -- ---- how many, and so many
 
@@ -86,6 +89,7 @@ fitting Fits f = record { Fits = Fits; spelling = f.spelling; reading = f.readin
 abbrev pub sized : Format ℕ → Format (List ℕ)
 sized count = record {
   Fits = λ bytes. count.Fits (length bytes);
+  Writable = λ bytes. count.Fits (length bytes);
   spelling = λ bytes. count.spelling (length bytes) ++ bytes;
   reading = λ bytes. do
     n ← count.reading bytes
@@ -104,6 +108,7 @@ many_at read (suc n) bytes = do
 abbrev pub counted : {A : Type 0} → Format ℕ → Format A → Format (List A)
 counted count f = record {
   Fits = λ xs. count.Fits (length xs) × AllByRecursion f.Fits xs;
+  Writable = λ xs. count.Fits (length xs) × AllByRecursion f.Writable xs;
   spelling = λ xs. count.spelling (length xs) ++ flat_map f.spelling xs;
   reading = λ bytes. do
     n ← count.reading bytes
@@ -140,6 +145,11 @@ abbrev pub OptionFits : {A : Type 0} → Format A → Option A → Type 0
 OptionFits f None = Unit {0}
 OptionFits f (Some a) = f.Fits a
 
+-- one that isn't refused
+abbrev pub OptionWritable : {A : Type 0} → Format A → Option A → Type 0
+OptionWritable f None = Unit {0}
+OptionWritable f (Some a) = f.Writable a
+
 -- its spelling
 abbrev pub option_spelling : {A : Type 0} → Format A → Option A → List ℕ
 option_spelling f None = 0 ∷ []
@@ -149,6 +159,7 @@ option_spelling f (Some a) = 1 ∷ f.spelling a
 abbrev pub option : {A : Type 0} → Format A → Format (Option A)
 option f = record {
   Fits = OptionFits f;
+  Writable = OptionWritable f;
   spelling = option_spelling f;
   reading = marked_at (arm 0 empty (λ _. None) (arm 1 f (λ a. Some a) no_mark));
 }

@@ -25,6 +25,11 @@ abbrev pub PieceFits : Piece → Type 0
 PieceFits (pieces.Text t) = text.Fits t
 PieceFits (pieces.Group place) = number.Fits place
 
+-- one that isn't refused
+abbrev pub PieceWritable : Piece → Type 0
+PieceWritable (pieces.Text t) = text.Writable t
+PieceWritable (pieces.Group place) = Unit {0}
+
 -- its spelling
 abbrev pub piece_spelling : Piece → List ℕ
 piece_spelling (pieces.Text t) = 1 ∷ text.spelling t
@@ -34,6 +39,7 @@ piece_spelling (pieces.Group place) = 2 ∷ number.spelling place
 abbrev pub piece : Format Piece
 piece = record {
   Fits = PieceFits;
+  Writable = PieceWritable;
   spelling = piece_spelling;
   reading = marked_at (arm 1 text (λ t. pieces.Text t) (arm 2 number (λ place. pieces.Group place) no_mark));
 }
@@ -66,6 +72,7 @@ kind_spelling Dir = 2 ∷ []
 abbrev pub kind : Format Kind
 kind = record {
   Fits = λ _. Unit {0};
+  Writable = λ _. Unit {0};
   spelling = kind_spelling;
   reading = marked_at (arm 0 empty (λ _. Nothing) (arm 1 empty (λ _. File) (arm 2 empty (λ _. Dir) no_mark)));
 }
@@ -76,6 +83,13 @@ QuestionFits (asks.Content p) = path.Fits p
 QuestionFits (asks.Config name) = text.Fits name
 QuestionFits (asks.Names dir) = path.Fits dir
 QuestionFits (asks.Kind p) = path.Fits p
+
+-- one that isn't refused
+abbrev pub QuestionWritable : Question → Type 0
+QuestionWritable (asks.Content p) = Unit {0}
+QuestionWritable (asks.Config name) = text.Writable name
+QuestionWritable (asks.Names dir) = Unit {0}
+QuestionWritable (asks.Kind p) = Unit {0}
 
 -- its spelling
 abbrev pub question_spelling : Question → List ℕ
@@ -88,17 +102,25 @@ question_spelling (asks.Kind p) = 4 ∷ path.spelling p
 abbrev pub question : Format Question
 question = record {
   Fits = QuestionFits;
+  Writable = QuestionWritable;
   spelling = question_spelling;
   reading = marked_at (arm 1 path (λ p. asks.Content p) (arm 2 text (λ name. asks.Config name) (arm 3 path (λ dir. asks.Names dir) (arm 4 path (λ p. asks.Kind p) no_mark))));
 }
 
--- what was told of a question has its kind
+-- what was told of a question has its kind, and a spelling
 abbrev pub NotedFits : Question → Noted → Type 0
 NotedFits (asks.Content p) (notes.Content found) = (option stamp).Fits found
 NotedFits (asks.Config name) (notes.Config value) = (option text).Fits value
 NotedFits (asks.Names dir) (notes.Names names) = (list text).Fits names
 NotedFits (asks.Kind p) (notes.Kind there) = kind.Fits there
 NotedFits _ _ = ⊥
+
+-- what was told isn't refused
+abbrev pub NotedWritable : Noted → Type 0
+NotedWritable (notes.Content found) = Unit {0}
+NotedWritable (notes.Config value) = (option text).Writable value
+NotedWritable (notes.Names names) = (list text).Writable names
+NotedWritable (notes.Kind there) = Unit {0}
 
 -- its spelling: the mark of its kind, and what was told
 abbrev pub noted_spelling : Noted → List ℕ
@@ -116,7 +138,7 @@ noted_at (asks.Kind p) = marked_at (arm 4 kind (λ there. notes.Kind there) no_m
 
 -- its format
 abbrev pub noted : Question → Format Noted
-noted q = record { Fits = NotedFits q; spelling = noted_spelling; reading = noted_at q }
+noted q = record { Fits = NotedFits q; Writable = NotedWritable; spelling = noted_spelling; reading = noted_at q }
 
 -- a question, and what was told of it
 abbrev pub asked : Format (Question × Noted)

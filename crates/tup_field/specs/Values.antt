@@ -17,6 +17,7 @@ truth_spelling true = 1 ∷ []
 abbrev pub truth : Format Bool
 truth = record {
   Fits = λ _. Unit {0};
+  Writable = λ _. Unit {0};
   spelling = truth_spelling;
   reading = marked_at (arm 0 empty (λ _. false) (arm 1 empty (λ _. true) no_mark));
 }

@@ -1,17 +1,18 @@
 //! Questions with what was told, as fields. What was told has the kind of its question.
-ghost use Rattle.std.specs.Prelude.{◌≡◌, ◌⊎◌, ◌++◌, Ok, Err, MatchResult};
+ghost use Rattle.std.specs.Prelude.{◌≡◌, ◌⊎◌, ◌++◌, Ok, Err, IfOk, MatchResult};
+ghost use Rattle.tup_rule.specs.Question.{HasKindOf};
 ghost use Rattle.tup_field.specs.Format.{IsUnwritten};
-ghost use Rattle.tup_field.specs.Rules.{NotedFits, noted_spelling, noted_at};
+ghost use Rattle.tup_field.specs.Rules.{NotedFits, NotedWritable, noted_spelling, noted_at};
 
 use crate::fault::RecordFault;
 use crate::field::Field;
 use crate::reader::Reader;
 use std::alloc::Global;
 use tup_path::{Bytes, Text, Texts};
-use tup_rule::{Kind, Noted, Question};
+use tup_rule::{Answered, Kind, Noted, Question};
 use tup_stamp::Stamp;
 
-impl Field for (Question, Noted) {
+impl Field for Answered {
     ghost use Rattle.tup_field.specs.Rules.{asked};
     ghost use Rattle.tup_field.specs.RulesLaws.{asked-exact};
 
@@ -20,22 +21,24 @@ impl Field for (Question, Noted) {
     ghost exact = { asked-exact };
 
     fn write(&self, bytes: &mut Bytes) -> Result<(), RecordFault> {
-        self.0.write(bytes)?;
-        write_told(&self.0, &self.1, bytes)
+        self.has_kind();
+        self.question().write(bytes)?;
+        write_told(self.question(), self.noted(), bytes)
     }
 
-    fn read(alloc: Global, reader: &mut Reader<'_>) -> Result<(Question, Noted), RecordFault> {
+    fn read(alloc: Global, reader: &mut Reader<'_>) -> Result<Answered, RecordFault> {
         let question = Question::read(alloc, reader)?;
         let told = read_told(alloc, &question, reader)?;
-        Ok((question, told))
+        Ok(Answered::new(question, told))
     }
 }
 
-/// Puts the spelling of what was told behind the bytes. `BadField` where it hasn't the kind of its question.
+/// Puts the spelling of what was told behind the bytes.
 fn write_told(question: &Question, told: &Noted, bytes: &mut Bytes) -> Result<(), RecordFault>
+    requires { HasKindOf question.now told.now }
     ensures { MatchResult result
         (λ _. NotedFits question.now told.now × (bytes.new ≡ bytes.old ++ noted_spelling told.now))
-        (IsUnwritten (NotedFits question.now told.now)) }
+        (IsUnwritten (NotedWritable told.now)) }
 {
     match (question, told) {
         (Question::Content(_), Noted::Content(stamp)) => {
@@ -54,7 +57,7 @@ fn write_told(question: &Question, told: &Noted, bytes: &mut Bytes) -> Result<()
             bytes.extend_from_slice(&[4])?;
             kind.write(bytes)
         }
-        _ => Err(RecordFault::BadField),
+        _ => unreachable!(),
     }
 }
 
@@ -64,9 +67,10 @@ fn read_told(
     question: &Question,
     reader: &mut Reader<'_>,
 ) -> Result<Noted, RecordFault>
-    ensures { MatchResult result
+    ensures told { MatchResult result
         (λ told. noted_at question.now reader.old ≡ Ok (told, reader.new))
         (λ fault. (fault ≡ RecordFault.Memory) ⊎ (noted_at question.now reader.old ≡ Err fault)) }
+    ensures kind { IfOk result (HasKindOf question.now) }
 {
     let mark = reader.byte()?;
     match (question, mark) {

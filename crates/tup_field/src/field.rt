@@ -14,13 +14,13 @@ pub trait Field: Drop + Sized {
 
     ghost format: { Format Self };
 
-    /// Puts the value's spelling behind the bytes. A value without one, in which a text has 2^32 bytes or more or
-    /// a list 2^32 members or more, is refused as `BadField`. After a refusal some of the spelling may stand
+    /// Puts the value's spelling behind the bytes. A value in which a text has 2^32 bytes or more or a list 2^32
+    /// members or more is refused as `BadField`, and no other is. After a refusal some of the spelling may stand
     /// behind the bytes.
     fn write(&self, bytes: &mut Bytes) -> Result<(), RecordFault>
         ensures { MatchResult result
             (λ _. format.Fits self.now × (bytes.new ≡ bytes.old ++ format.spelling self.now))
-            (IsUnwritten (format.Fits self.now)) };
+            (IsUnwritten (format.Writable self.now)) };
 
     /// Reads a value from the front of the bytes that are left. The first place from the left that doesn't fit is
     /// refused. After a refusal some of the bytes are taken.

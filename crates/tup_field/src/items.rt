@@ -51,7 +51,7 @@ fn write_list<T: Field>(items: &[T], bytes: &mut Bytes) -> Result<(), RecordFaul
     ensures { MatchResult result
         (λ _. (list T.format).Fits items.now
         × (bytes.new ≡ bytes.old ++ (list T.format).spelling items.now))
-        (IsUnwritten ((list T.format).Fits items.now)) }
+        (IsUnwritten ((list T.format).Writable items.now)) }
 {
     let Ok(count) = u32::try_from(items.len()) else {
         return Err(RecordFault::BadField);
@@ -65,7 +65,7 @@ fn write_all<T: Field>(items: &[T], bytes: &mut Bytes) -> Result<(), RecordFault
     ensures { MatchResult result
         (λ _. AllByRecursion T.format.Fits items.now
         × (bytes.new ≡ bytes.old ++ flat_map T.format.spelling items.now))
-        (IsUnwritten (AllByRecursion T.format.Fits items.now)) }
+        (IsUnwritten (AllByRecursion T.format.Writable items.now)) }
 {
     for item in items {
         item.write(bytes)?;

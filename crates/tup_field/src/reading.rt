@@ -4,7 +4,7 @@ use crate::field::Field;
 use crate::reader::Reader;
 use std::alloc::Global;
 use tup_path::{Bytes, Shared};
-use tup_rule::{Draft, Noted, Question, Reading};
+use tup_rule::{Answered, Draft, Reading};
 
 impl Field for Reading {
     ghost use Rattle.tup_field.specs.Rules.{reading};
@@ -20,7 +20,7 @@ impl Field for Reading {
     }
 
     fn read(alloc: Global, reader: &mut Reader<'_>) -> Result<Reading, RecordFault> {
-        let asked = Shared::<(Question, Noted)>::read(alloc, reader)?;
+        let asked = Shared::<Answered>::read(alloc, reader)?;
         let drafts = Shared::<Draft>::read(alloc, reader)?;
         Ok(Reading { drafts, asked })
     }

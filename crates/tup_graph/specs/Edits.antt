@@ -4,7 +4,7 @@ use Rattle.std.specs.FinMap as finite
 use Rattle.tup_rule.specs.declared.rule.Rule.{Rule}
 use Rattle.tup_record.specs.declared.record.Record.{Record}
 use Rattle.tup_record.specs.declared.record.Record.TheVariants as records
-use Rattle.tup_record.specs.Spelling.{Fits, key_of, value_of}
+use Rattle.tup_record.specs.Spelling.{Fits, key_of, value_of, IsLong, IsWritable}
 use Rattle.tup_table.specs.declared.change.Change.{Change}
 use Rattle.tup_table.specs.declared.change.Change.TheVariants as changes
 use Rattle.tup_graph.specs.declared.edit.Edit.{Edit}
@@ -59,6 +59,16 @@ IsTaken g (Remove r) = IsBesideRules r × Fits r
 abbrev pub HasSpelling : Edit → Type 0
 HasSpelling (Put r) = Fits r
 HasSpelling (Remove r) = Fits r
+
+-- the record of an edit isn't refused for a length
+abbrev pub IsEditWritable : Edit → Type 0
+IsEditWritable (Put r) = IsWritable r
+IsEditWritable (Remove r) = IsWritable r
+
+-- the record of an edit has a value of 2^32 bytes or more
+abbrev pub IsEditLong : Edit → Type 0
+IsEditLong (Put r) = IsLong r
+IsEditLong (Remove r) = IsLong r
 
 -- a graph of files, readings and rules alone: nothing names a rule
 pub record IsBare (g : GraphState) : Type 0 where

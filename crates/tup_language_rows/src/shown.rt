@@ -2,7 +2,7 @@
 use std::alloc::{AllocError, Global};
 use tup_path::{Path, Text};
 use tup_rows::{RowFault, Words};
-use tup_rule::{Draft, GroupRef, Kind, Noted, Piece, Question};
+use tup_rule::{Answered, Draft, GroupRef, Kind, Noted, Piece, Question};
 
 /// The rules, one after another: where each stands, its command, what is shown in its place, its
 /// files and groups.
@@ -109,11 +109,11 @@ fn add_given(alloc: Global, words: &mut Words, group: &Option<GroupRef>) {
 }
 
 /// The questions, each with what was told.
-pub(crate) fn questions(alloc: Global, asked: &[(Question, Noted)]) -> Words {
+pub(crate) fn questions(alloc: Global, asked: &[Answered]) -> Words {
     let mut words = Words::new(alloc);
-    for (question, told) in asked {
-        add_question(alloc, &mut words, question);
-        add_told(alloc, &mut words, told);
+    for one in asked {
+        add_question(alloc, &mut words, one.question());
+        add_told(alloc, &mut words, one.noted());
     }
     words
 }

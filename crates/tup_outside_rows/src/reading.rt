@@ -2,7 +2,9 @@
 use std::alloc::Global;
 use tup_path::{Bytes, Items, Path};
 use tup_rows::{RowFault, Words, set};
-use tup_rule::{Draft, Drafts, GroupRef, Kind, Noted, Piece, Question, Questions, Reading, Told};
+use tup_rule::{
+    Answered, Draft, Drafts, GroupRef, Kind, Noted, Piece, Question, Questions, Reading, Told,
+};
 use tup_stamp::hex;
 
 pub(crate) fn answer(alloc: Global, call: &str, said: &Words) -> Words {
@@ -97,7 +99,7 @@ fn one_draft(alloc: Global, said: &Words) -> Drafts {
 fn one_asked(alloc: Global, said: &Words) -> Questions {
     let mut asked = Questions::new(alloc);
     let question = Question::Kind(said.path_at(alloc, 0));
-    said.list(&mut asked, (question, Noted::Kind(Kind::File)));
+    said.list(&mut asked, Answered::new(question, Noted::Kind(Kind::File)));
     asked
 }
 

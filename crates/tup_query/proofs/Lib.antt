@@ -5,3 +5,4 @@ pub mod Asking
 pub mod Steps
 pub mod Texts
 pub mod Shorts
+pub mod OfKind

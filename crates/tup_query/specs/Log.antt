@@ -1,5 +1,6 @@
 -- What a reading asked and was told, each question once (own), and what it comes to by that alone.
 use Rattle.std.specs.Prelude.{◌≡◌, ◌⊎◌, Bool, true, false, List, [], ◌∷◌, ◌++◌, IsTrue, Option, Some, None, Result, Ok, Err, map, bytes_eq}
+use Rattle.std.specs.List.{AllByRecursion}
 use Rattle.std.specs.Map.{lookup}
 use Rattle.tup_path.specs.Order.{same_path}
 use Rattle.tup_rule.specs.declared.question.Question.{Question}
@@ -39,6 +40,10 @@ StopsAt (Some at) question = IsTrue (at question)
 abbrev pub IsStop : {A F : Type 0} → Question → Option (Question → Bool) → Result A F → Type 0
 IsStop question stopped (Ok told) = stopped ≡ None
 IsStop question stopped (Err stop) = StopsAt stopped question
+
+-- each answer is of its question's kind
+abbrev pub AllOfKind : Log → Type 0
+AllOfKind log = AllByRecursion (λ (entry : Question × Told). fits entry.0 entry.1 ≡ true) log
 
 -- what was told to a question before
 abbrev pub told_before : Log → Question → Option Told

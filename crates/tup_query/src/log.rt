@@ -1,12 +1,12 @@
 //! What a reading asked, and what it was told.
-ghost use Rattle.std.specs.Prelude.{◌≡◌, ◌++◌, ◌∷◌, [], None, IfOk, OnOk, OnErr, option_map};
-ghost use Rattle.tup_query.specs.Log.{told_before, noted_log};
+ghost use Rattle.std.specs.Prelude.{◌≡◌, ◌++◌, ◌∷◌, [], true, None, IfOk, OnOk, OnErr, option_map};
+ghost use Rattle.tup_query.specs.Log.{fits, told_before, noted_log};
 
 use crate::key::Key;
 use indexmap::IndexMap;
 use std::alloc::{AllocError, Global};
 use std::marker::Model;
-use tup_rule::{Questions, Told};
+use tup_rule::{Answered, Questions, Told};
 
 /// Questions with what was told, in the order of first asking. Contracts see the list of them.
 #[derive(Drop)]
@@ -16,12 +16,15 @@ pub struct Log {
 
 impl Model for Log {
     ghost use Rattle.std.specs.Prelude.{List};
+    ghost use Rattle.tup_query.specs.Log.{AllOfKind};
     ghost use Rattle.tup_rule.specs.declared.question.Question.{Question};
     ghost use Rattle.tup_rule.specs.declared.question.Told.{Told as Answer};
 
     ghost Value = { List (Question × Answer) };
 
     ghost view = { λ log. log.told.entries };
+
+    ghost invariant = { λ log. AllOfKind log.told.entries };
 }
 
 impl Log {
@@ -41,10 +44,11 @@ impl Log {
         self.told.get(question)
     }
 
-    /// Adds a question that was not asked before, with what was told. After a refusal the log is as
-    /// it was.
+    /// Adds a question that was not asked before, with what was told, which has its kind. After a
+    /// refusal the log is as it was.
     pub(crate) fn add(&mut self, question: Key, told: Told) -> Result<(), AllocError>
-        requires { told_before self.old question ≡ None }
+        requires unasked { told_before self.old question ≡ None }
+        requires kind { fits question told ≡ true }
         ensures added { OnOk result (self.new ≡ self.old ++ (question, told) ∷ []) }
         ensures kept { OnErr result (self.new ≡ self.old) }
     {
@@ -58,7 +62,7 @@ impl Log {
     {
         let mut asked = Questions::new(alloc);
         for (key, told) in self.told {
-            asked.push((key.question, told.noted()))?;
+            asked.push(Answered::new(key.question, told.noted()))?;
         }
         Ok(asked)
     }

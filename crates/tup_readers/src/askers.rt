@@ -63,8 +63,8 @@ impl Askers {
         ensures { OnOk result (Adds (AreOf question_of (asked_of reading.now) dir.now)
             (HasAsker self.old) (HasAsker self.new)) }
     {
-        for (question, _) in reading.asked.as_slice() {
-            self.add_one(alloc, question, dir.clone()?)?;
+        for one in reading.asked.as_slice() {
+            self.add_one(alloc, one.question(), dir.clone()?)?;
         }
         Ok(())
     }

@@ -27,6 +27,7 @@ state_spelling (Written s) = 2 ∷ stamp.spelling s
 abbrev pub state : Format OwnedState
 state = record {
   Fits = StateFits;
+  Writable = λ _. Unit {0};
   spelling = state_spelling;
   reading = marked_at (arm 0 empty (λ _. Never) (arm 1 empty (λ _. Unsure) (arm 2 stamp (λ s. Written s) no_mark)));
 }

@@ -1,7 +1,7 @@
 -- The one spelling of each record: a key, which begins with the byte of its kind, and a value (own).
 -- A record with a text or a list of 2^32 or more, or with an answer of another kind than its question, has no
 -- spelling.
-use Rattle.std.specs.Prelude.{◌≡◌, ℕ, List, [], ◌∷◌}
+use Rattle.std.specs.Prelude.{◌≡◌, ℕ, ◌^◌, ◌≤◌, List, [], ◌∷◌, length}
 use Rattle.tup_field.specs.Parts.{number, ◌&◌, option}
 use Rattle.tup_field.specs.Values.{path, stamp}
 use Rattle.tup_field.specs.Rules.{rule, reading}
@@ -52,6 +52,34 @@ ValueFits (Modify n) = Unit {0}
 -- the record has a spelling
 abbrev pub Fits : Record → Type 0
 Fits r = KeyFits r × ValueFits r
+
+-- the key isn't refused
+abbrev pub KeyWritable : Record → Type 0
+KeyWritable (Seen p s) = path.Writable p
+KeyWritable (Reading dir r) = path.Writable dir
+KeyWritable (Rule n place r) = number.Writable n
+KeyWritable (Run n r) = number.Writable n
+KeyWritable (Owned p maker s) = path.Writable p
+KeyWritable (Create dir) = path.Writable dir
+KeyWritable (Modify n) = number.Writable n
+
+-- the value isn't refused
+abbrev pub ValueWritable : Record → Type 0
+ValueWritable (Seen p s) = stamp.Writable s
+ValueWritable (Reading dir r) = reading.Writable r
+ValueWritable (Rule n place r) = (number & rule).Writable (place, r)
+ValueWritable (Run n r) = run.Writable r
+ValueWritable (Owned p maker s) = (option number & state).Writable (maker, s)
+ValueWritable (Create dir) = Unit {0}
+ValueWritable (Modify n) = Unit {0}
+
+-- the record isn't refused: no text of it has 2^32 bytes or more, and no list of it 2^32 members or more
+abbrev pub IsWritable : Record → Type 0
+IsWritable r = KeyWritable r × ValueWritable r
+
+-- its value has 2^32 bytes or more
+abbrev pub IsLong : Record → Type 0
+IsLong r = 2 ^ 32 ≤ length (value_of r)
 
 -- a key and a value are the spelling of a record
 abbrev pub IsSpelled : List ℕ → List ℕ → Record → Type 0

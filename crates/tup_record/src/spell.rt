@@ -2,19 +2,19 @@
 ghost use Rattle.std.specs.Prelude.{◌≡◌, ◌∷◌, MatchResult};
 ghost use Rattle.tup_field.specs.Format.{IsUnwritten};
 ghost use Rattle.tup_field.specs.Parts.{◌&◌};
-ghost use Rattle.tup_record.specs.Spelling.{KeyFits, ValueFits, Fits, key_of, value_of};
+ghost use Rattle.tup_record.specs.Spelling.{KeyFits, KeyWritable, ValueFits, ValueWritable, Fits, IsWritable, key_of, value_of};
 
 use crate::record::Record;
 use std::alloc::Global;
 use tup_field::{Field, RecordFault};
 use tup_path::Bytes;
 
-/// The key and the value that spell a record. A record without a spelling, in which a text has 2^32 bytes or more or
-/// a list 2^32 members or more, or something was told that hasn't the kind of its question, is refused as `BadField`.
+/// The key and the value that spell a record. A record in which a text has 2^32 bytes or more or a list 2^32 members or
+/// more is refused as `BadField`, and no other is.
 pub fn encode(alloc: Global, entry: &Record) -> Result<(Bytes, Bytes), RecordFault>
     ensures { MatchResult result
         (λ spelled. Fits entry.now × (spelled ≡ (key_of entry.now, value_of entry.now)))
-        (IsUnwritten (Fits entry.now)) }
+        (IsUnwritten (IsWritable entry.now)) }
 {
     let key = key(alloc, entry)?;
     let value = value(alloc, entry)?;
@@ -25,7 +25,7 @@ pub fn encode(alloc: Global, entry: &Record) -> Result<(Bytes, Bytes), RecordFau
 fn key(alloc: Global, entry: &Record) -> Result<Bytes, RecordFault>
     ensures { MatchResult result
         (λ key. KeyFits entry.now × (key ≡ key_of entry.now))
-        (IsUnwritten (KeyFits entry.now)) }
+        (IsUnwritten (KeyWritable entry.now)) }
 {
     match entry {
         Record::Seen { path, .. } => marked(alloc, 1, path),
@@ -42,7 +42,7 @@ fn key(alloc: Global, entry: &Record) -> Result<Bytes, RecordFault>
 fn value(alloc: Global, entry: &Record) -> Result<Bytes, RecordFault>
     ensures { MatchResult result
         (λ value. ValueFits entry.now × (value ≡ value_of entry.now))
-        (IsUnwritten (ValueFits entry.now)) }
+        (IsUnwritten (ValueWritable entry.now)) }
 {
     match entry {
         Record::Seen { stamp, .. } => alone(alloc, stamp),
@@ -58,7 +58,7 @@ fn value(alloc: Global, entry: &Record) -> Result<Bytes, RecordFault>
 fn marked<T: Field>(alloc: Global, kind: u8, field: &T) -> Result<Bytes, RecordFault>
     ensures { MatchResult result
         (λ bytes. T.format.Fits field.now × (bytes ≡ kind ∷ T.format.spelling field.now))
-        (IsUnwritten (T.format.Fits field.now)) }
+        (IsUnwritten (T.format.Writable field.now)) }
 {
     let mut bytes = Bytes::new(Vec::new(alloc));
     bytes.extend_from_slice(&[kind])?;
@@ -70,7 +70,7 @@ fn marked<T: Field>(alloc: Global, kind: u8, field: &T) -> Result<Bytes, RecordF
 fn alone<T: Field>(alloc: Global, field: &T) -> Result<Bytes, RecordFault>
     ensures { MatchResult result
         (λ bytes. T.format.Fits field.now × (bytes ≡ T.format.spelling field.now))
-        (IsUnwritten (T.format.Fits field.now)) }
+        (IsUnwritten (T.format.Writable field.now)) }
 {
     let mut bytes = Bytes::new(Vec::new(alloc));
     field.write(&mut bytes)?;
@@ -82,7 +82,7 @@ fn both<A: Field, B: Field>(alloc: Global, first: &A, second: &B) -> Result<Byte
     ensures { MatchResult result
         (λ bytes. (A.format & B.format).Fits (first.now, second.now)
         × (bytes ≡ (A.format & B.format).spelling (first.now, second.now)))
-        (IsUnwritten ((A.format & B.format).Fits (first.now, second.now))) }
+        (IsUnwritten ((A.format & B.format).Writable (first.now, second.now))) }
 {
     let mut bytes = Bytes::new(Vec::new(alloc));
     first.write(&mut bytes)?;

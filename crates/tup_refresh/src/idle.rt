@@ -8,7 +8,7 @@ use std::alloc::Global;
 use std::cmp::Ordering;
 use tup_graph::Nodes;
 use tup_path::{Bytes, Path, Text};
-use tup_rule::{Noted, Question};
+use tup_rule::{Answered, Question};
 use tup_vars::read_config;
 
 /// Whether no folder is flagged, tup.config has no fault, and each kept reading asked only about its own folder and about those
@@ -66,11 +66,11 @@ fn all_ask_back(nodes: &Nodes) -> bool
 }
 
 /// Whether none of the questions of the reading of a folder is about a later one.
-fn are_back(reader: &Path, asked: &[(Question, Noted)]) -> bool
+fn are_back(reader: &Path, asked: &[Answered]) -> bool
     ensures { IsTrue result → AreBack reader.now asked.now }
 {
-    for (question, _) in asked {
-        if !is_back(reader.names(), question) {
+    for one in asked {
+        if !is_back(reader.names(), one.question()) {
             return false;
         }
     }

@@ -15,7 +15,7 @@ use std::alloc::Global;
 use tup_graph::Nodes;
 use tup_path::Path;
 use tup_readings::{Asked, Stop};
-use tup_rule::{Noted, Question};
+use tup_rule::{Answered, Noted, Question};
 use tup_stamp::Stamp;
 
 /// Whether all that a reading was told is what is answered now. Answers are compared in the order in
@@ -25,15 +25,15 @@ pub(crate) fn all_stand(
     alloc: Global,
     asked: &Asked<'_, '_>,
     nodes: &Nodes,
-    told: &[(Question, Noted)],
+    told: &[Answered],
 ) -> Result<bool, Stop>
     ensures { (sources : Tree) → HasPaths sources asked.now.sources.now
         → SeesSources sources nodes.now
         → HasCompared sources asked.now.settings.now asked.now.readings.now
         asked.now.reader.now told.now result }
 {
-    for (question, noted) in told {
-        let stands = stands(alloc, asked, nodes, question, noted)?;
+    for one in told {
+        let stands = stands(alloc, asked, nodes, one.question(), one.noted())?;
         if !stands {
             return Ok(false);
         }

@@ -5,12 +5,14 @@
 //! leaves: drafts of rules, and what it asked about the project with what it was told.
 #![tactic(auto)]
 
+mod answered;
 mod by_path;
 mod draft;
 mod fault;
 mod question;
 mod rule;
 
+pub use answered::Answered;
 pub use by_path::{Makers, makers, producers_of};
 pub use draft::{Draft, Drafts, GroupRef, GroupRefs, Piece, Pieces};
 pub use fault::RuleFault;

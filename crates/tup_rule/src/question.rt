@@ -2,6 +2,7 @@
 ghost use Rattle.std.specs.Prelude.{◌≡◌, IfOk};
 ghost use Rattle.tup_rule.specs.Question.{noted};
 
+use crate::answered::Answered;
 use crate::draft::{Draft, Drafts};
 use std::alloc::AllocError;
 use tup_path::{Bytes, Items, Path, Shared, Text, Texts};
@@ -113,7 +114,7 @@ impl Told {
 }
 
 /// Questions with what was told, in the order of their first asking.
-pub type Questions = Items<(Question, Noted)>;
+pub type Questions = Items<Answered>;
 
 /// What the reading of one folder's Tupfile leaves. A copy of it shares both lists.
 #[derive(Drop, PartialEq, Eq)]
@@ -121,7 +122,7 @@ pub struct Reading {
     /// Its rules, in the order of their lines.
     pub drafts: Shared<Draft>,
     /// What it asked, each question once, and what it was told.
-    pub asked: Shared<(Question, Noted)>,
+    pub asked: Shared<Answered>,
 }
 
 impl Reading {

@@ -15,7 +15,7 @@ use crate::present::Present;
 use std::alloc::Global;
 use tup_graph::GraphFault;
 use tup_path::{Path, Text, Texts};
-use tup_rule::{Kind, Noted, Question};
+use tup_rule::{Answered, Kind, Noted, Question};
 
 /// So many names are looked through one after another; where there are more, a path is looked up among all files.
 const FEW: usize = 32;
@@ -27,7 +27,7 @@ impl Present<'_> {
         alloc: Global,
         reader: &Path,
         beside: &[Text],
-        asked: &[(Question, Noted)],
+        asked: &[Answered],
     ) -> Result<bool, GraphFault>
         requires present { IsWhole self.now }
         requires beside { beside.now ≡ list_of self.now.index.names reader.now }
@@ -36,8 +36,8 @@ impl Present<'_> {
             (IsToldOtherwise config self.now reader.now asked.now)) }
         ensures memory { IfErr result (λ fault. fault ≡ GraphFault.Memory) }
     {
-        for (question, noted) in asked {
-            let stands = self.stands(alloc, reader, beside, question, noted)?;
+        for one in asked {
+            let stands = self.stands(alloc, reader, beside, one.question(), one.noted())?;
             if !stands {
                 return Ok(false);
             }

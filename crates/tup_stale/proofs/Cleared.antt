@@ -11,7 +11,7 @@ use Rattle.tup_site.specs.World.{World}
 use Rattle.tup_table.specs.Table.{entries_in, is_fresh as is_fresh_table}
 use Rattle.tup_table.specs.declared.change.Change.{Change}
 use Rattle.tup_graph.specs.Changes.{changes_it}
-use Rattle.tup_graph.specs.Edits.{HasSpelling}
+use Rattle.tup_graph.specs.Edits.{IsEditWritable}
 use Rattle.tup_graph.specs.Transactions.{doom_edits, with_doomed, forget_edits, with_forgotten}
 use Rattle.tup_graph.specs.declared.fault.GraphFault.{GraphFault}
 use Rattle.tup_graph.specs.declared.fault.GraphFault.TheVariants.{Full as GraphFull, Memory as GraphMemory}
@@ -84,7 +84,7 @@ no_change h =
     ap (λ (last : List (List ℕ × Change)). filter (changes_it (entries_in h.table)) (map (λ (e : List ℕ × Change). e.1) last)) none
 
 no_room_needed : (h : Held) → IsFull h [] → ⊥
-no_room_needed h full = ⊎_elim (λ unspelled. unspelled (All-nil HasSpelling)) (λ over. over.0 (no_change h)) full
+no_room_needed h full = ⊎_elim (λ unspelled. unspelled (All-nil IsEditWritable)) (λ over. over.0 (no_change h)) full
 
 first : (a b : Bool) → IsTrue (a && b) → a ≡ true
 first true b is = refl

@@ -3,7 +3,7 @@ use crate::say::{Say, named};
 use std::alloc::Global;
 use tup_record::{OwnedState, Record, RunRecord};
 use tup_rows::Words;
-use tup_rule::{Draft, GroupRef, Kind, Noted, Piece, Question, Reading, Rule};
+use tup_rule::{Answered, Draft, GroupRef, Kind, Noted, Piece, Question, Reading, Rule};
 
 impl Say for GroupRef {
     fn say(&self, alloc: Global, words: &mut Words) {
@@ -51,6 +51,13 @@ impl Say for Noted {
             Noted::Names(names) => named(alloc, words, "told", names),
             Noted::Kind(kind) => named(alloc, words, "told", kind),
         }
+    }
+}
+
+impl Say for Answered {
+    fn say(&self, alloc: Global, words: &mut Words) {
+        self.question().say(alloc, words);
+        self.noted().say(alloc, words)
     }
 }
 

@@ -1,5 +1,5 @@
 -- What edits leave of a graph, and what is known of one that was opened by its fields.
-use Rattle.std.proofs.Common.{◌≡◌, ℕ, ◌&&◌, Bool, true, false, List, [], map, All, IsTrue, Result, Err, inl, inr, ⊎_elim, refl, sym, ap, subst, ◌∙◌}
+use Rattle.std.proofs.Common.{◌≡◌, ℕ, ◌&&◌, Bool, true, false, List, [], map, All, IsTrue, Result, Ok, Err, inl, inr, ⊎_elim, refl, sym, ap, subst, ◌∙◌}
 use Rattle.tup_path.specs.Gives.{GivesUnless}
 use Rattle.tup_table.specs.Entries.{Standing, IsAscending, committed}
 use Rattle.tup_table.specs.Table.{entries_in, is_fresh as is_fresh_table, IsOver}
@@ -14,6 +14,7 @@ use Rattle.tup_graph.specs.declared.fault.GraphFault.{GraphFault}
 use Rattle.tup_graph.specs.declared.fault.GraphFault.TheVariants as graph
 use Rattle.tup_graph.specs.declared.edit.Edit.{Edit}
 use Rattle.tup_graph.proofs.OneWay.{one_graph}
+use Rattle.tup_stored_graph.proofs.Lengths.{all_writable}
 use Rattle.tup_stored_graph.specs.Held.{Held, IsSound, is_fresh}
 use Rattle.tup_stored_graph.specs.Transaction.{to_write, with_changes, after, IsFull}
 
@@ -50,10 +51,23 @@ module _ (old inside : Held) (view : inside ≡ old) where
   -- and where a commit of edits was refused that have a spelling, the store may be full
   pub full_refused : (edits : List Edit) (cs : List Change) → cs ≡ to_write old edits → All HasSpelling edits → (result : Result (Unit {0}) TableFault) (fault : TableFault) → result ≡ Err fault
       → (IsOver inside.table cs → GivesUnless result table.Memory (Err table.Full)) → IsFull old edits → GivesUnless {T = Unit {0}} (Err (fault_of fault)) graph.Memory (Err graph.Full)
-  full_refused edits cs cs_are spelled result fault failed fits (inl none) = absurd (none spelled)
+  full_refused edits cs cs_are spelled result fault failed fits (inl none) = absurd (none (all_writable edits spelled))
   full_refused edits cs cs_are spelled result fault failed fits (inr over) =
       let there : IsOver inside.table cs = subst (λ (h : Held). IsOver h.table cs) (sym view) (subst (λ (c : List Change). IsOver old.table c) (sym cs_are) over.1) in
       ⊎_elim (λ memory. as_told table.Memory (cc (failed, memory)) (inl refl)) (λ full. as_told table.Full (cc (failed, full)) (inr refl)) (fits there)
     where
       as_told : (other : TableFault) → fault ≡ other → GivesUnless {T = Unit {0}} (Err (fault_of other)) graph.Memory (Err graph.Full) → GivesUnless {T = Unit {0}} (Err (fault_of fault)) graph.Memory (Err graph.Full)
       as_told other is told = subst (λ (f : TableFault). GivesUnless {T = Unit {0}} (Err (fault_of f)) graph.Memory (Err graph.Full)) (sym is) told
+
+  -- edits that have spellings and change nothing leave room
+  pub nothing_not_full : (edits : List Edit) → to_write old edits ≡ [] → All HasSpelling edits → IsFull old edits → ⊥
+  nothing_not_full edits none spelled (inl refused) = refused (all_writable edits spelled)
+  nothing_not_full edits none spelled (inr over) = over.0 none
+
+  -- and so do those that were committed
+  pub committed_not_full : (edits : List Edit) (cs : List Change) → cs ≡ to_write old edits → All HasSpelling edits → (result : Result (Unit {0}) TableFault) (done : Unit {0}) → result ≡ Ok done
+      → (IsOver inside.table cs → GivesUnless result table.Memory (Err table.Full)) → IsFull old edits → ⊥
+  committed_not_full edits cs cs_are spelled result done committed fits (inl refused) = refused (all_writable edits spelled)
+  committed_not_full edits cs cs_are spelled result done committed fits (inr over) =
+      let there : IsOver inside.table cs = subst (λ (h : Held). IsOver h.table cs) (sym view) (subst (λ (c : List Change). IsOver old.table c) (sym cs_are) over.1) in
+      ⊎_elim (λ memory. absurd (cc (committed, memory))) (λ full. absurd (cc (committed, full))) (fits there)

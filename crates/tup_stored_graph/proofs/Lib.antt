@@ -5,3 +5,4 @@ pub mod Compacting
 pub mod Fresh
 pub mod Edited
 pub mod Opened
+pub mod Lengths

@@ -1,10 +1,10 @@
 -- What a transaction does to a graph and to its store (own).
-use Rattle.std.specs.Prelude.{◌≡◌, ◌≢◌, ◌⊎◌, true, false, List, [], ◌∷◌, All, map, Result, Ok, Err}
+use Rattle.std.specs.Prelude.{◌≡◌, ◌≢◌, ◌⊎◌, true, false, List, [], ◌∷◌, All, Contains, map, Result, Ok, Err}
 use Rattle.tup_table.specs.Table.{entries_in, after_commit, IsOver}
 use Rattle.tup_table.specs.declared.change.Change.{Change}
 use Rattle.tup_table.specs.declared.table.Table.{Table}
 use Rattle.tup_graph.specs.Changes.{needed}
-use Rattle.tup_graph.specs.Edits.{change_of, HasSpelling}
+use Rattle.tup_graph.specs.Edits.{change_of, IsEditLong, IsEditWritable}
 use Rattle.tup_graph.specs.Graph.{GraphState, empty_graph}
 use Rattle.tup_graph.specs.declared.edit.Edit.{Edit}
 use Rattle.tup_graph.specs.declared.fault.GraphFault.{GraphFault}
@@ -32,9 +32,17 @@ emptied graph edits = record { table = with_changes graph.table (to_write graph 
 abbrev pub IsLost : List Edit → Held → Held → Type 0
 IsLost edits old new = (new ≡ stale old) ⊎ (new ≡ emptied old edits)
 
--- the store has no room for these edits: a record has no spelling, or the store would be too large
+-- the store would be too large with these edits
+abbrev pub IsTooLarge : Held → List Edit → Type 0
+IsTooLarge graph edits = (to_write graph edits ≢ []) × IsOver graph.table (to_write graph edits)
+
+-- the store has no room for these edits: a record is refused for a length, or the store would be too large
 abbrev pub IsFull : Held → List Edit → Type 0
-IsFull graph edits = (¬ All HasSpelling edits) ⊎ ((to_write graph edits ≢ []) × IsOver graph.table (to_write graph edits))
+IsFull graph edits = (¬ All IsEditWritable edits) ⊎ IsTooLarge graph edits
+
+-- the record of one of these edits is longer than any store may be
+abbrev pub HasLongRecord : List Edit → Type 0
+HasLongRecord edits = (edit : Edit) × Contains edits edit × IsEditLong edit
 
 -- What a transaction with these edits, which leave these nodes, does to the graph and the site, by
 -- its answer. It writes nothing where it changes nothing, where the store has no room, or where

@@ -1,7 +1,9 @@
 //! Laws of a graph over the store of a site.
-ghost use Rattle.std.specs.Prelude.{◌≡◌, IsTrue};
+ghost use Rattle.std.specs.Prelude.{◌≡◌, ◌⊎◌, List, IsTrue};
 ghost use Rattle.tup_site.specs.Crash.{GoesOn, NoStep};
+ghost use Rattle.tup_graph.specs.declared.edit.Edit.{Edit};
 ghost use Rattle.tup_stored_graph.specs.Held.{Held, StandsFor};
+ghost use Rattle.tup_stored_graph.specs.Transaction.{HasLongRecord, IsFull, IsTooLarge};
 
 use tup_site::Site;
 
@@ -14,3 +16,9 @@ pub fn reads_keep_graphs<S: Site>(site: &S)
 {
     let _ = site;
 }
+
+/// A law: a store has no room for edits only where it would be too large, or one of their records is longer than any store may be.
+pub fn full_is_too_large()
+    ensures { (graph : Held) (edits : List Edit) → IsFull graph edits
+        → HasLongRecord edits ⊎ IsTooLarge graph edits }
+{}

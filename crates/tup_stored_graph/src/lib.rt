@@ -9,4 +9,4 @@ mod laws;
 mod transactions;
 
 pub use graph::Graph;
-pub use laws::reads_keep_graphs;
+pub use laws::{full_is_too_large, reads_keep_graphs};

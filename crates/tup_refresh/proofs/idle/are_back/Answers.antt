@@ -10,18 +10,18 @@ use Rattle.tup_refresh.proofs.idle.are_back.Goals as goal
 abbrev Back : Names → Question × Noted → Type 0
 Back reader one = asks_back reader one.0 ≡ true
 
-pub loop-question-init : goal.loop-question-init
-loop-question-init c = All-nil (Back c.args.reader.now)
+pub loop-one-init : goal.loop-one-init
+loop-one-init c = All-nil (Back c.args.reader.now)
 
-pub loop-question-preserved : goal.loop-question-preserved
-loop-question-preserved c =
+pub loop-one-preserved : goal.loop-one-preserved
+loop-one-preserved c =
     let reader = c.args.reader.now in
-    let one = c.loop-question-item.result in
-    let so : Back reader one = sym (c.is_back.ensures ∙ ap (λ (r : Names). asks_back r one.0) c.names.ensures.names) ∙ c.if-not-is_back.false in
-    All-more (Back reader) c.args.asked.now c.loop-question.question-index one c.loop-question-test.true c.loop-question.invariant (subst (Back reader) c.loop-question-item.is so)
+    let one = c.one-item.result in
+    let so : Back reader one = sym (c.is_back.ensures ∙ ap (λ (r : Names). asks_back r c.question.result.now) c.names.ensures.names ∙ ap (asks_back reader) c.question.ensures) ∙ c.if-not-is_back.false in
+    All-more (Back reader) c.args.asked.now c.loop-one.one-index one c.loop-one-test.true c.loop-one.invariant (subst (Back reader) c.one-item.is so)
 
 pub returns : goal.returns
-returns c = λ is. subst (AreBack c.args.reader.now) (take_all c.loop-question.question-index c.args.asked.now c.loop-question-test.false) c.loop-question.invariant
+returns c = λ is. subst (AreBack c.args.reader.now) (take_all c.loop-one.one-index c.args.asked.now c.loop-one-test.false) c.loop-one.invariant
 
 pub returns-then-not-is_back : goal.returns-then-not-is_back
 returns-then-not-is_back c = λ is. let wrong : false ≡ true = is in cc

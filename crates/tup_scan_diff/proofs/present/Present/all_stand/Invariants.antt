@@ -5,5 +5,5 @@ use Rattle.tup_scan_diff.specs.Present.{IsPresent}
 use Rattle.tup_scan_diff.specs.Told.{AreToldSo}
 use Rattle.tup_scan_diff.proofs.present.Present.all_stand.Given as goal
 
-abbrev pub invariant-loop-question : goal.invariant-loop-question
-invariant-loop-question l = (config : Option Content) → IsPresent config l.self → AreToldSo config l.self l.reader (take l.question-index l.asked)
+abbrev pub invariant-loop-one : goal.invariant-loop-one
+invariant-loop-one l = (config : Option Content) → IsPresent config l.self → AreToldSo config l.self l.reader (take l.one-index l.asked)

@@ -9,7 +9,7 @@ use Rattle.tup_table.specs.Appending.{HasShortKey}
 use Rattle.tup_table.specs.Table.{entries_in}
 use Rattle.tup_table.specs.declared.change.Change.{Change}
 use Rattle.tup_stored_graph.specs.Held.{Held}
-use Rattle.tup_stored_graph.proofs.Committing.{sound_now, ascending_now, written_now, unchanged, full_refused}
+use Rattle.tup_stored_graph.proofs.Committing.{sound_now, ascending_now, written_now, unchanged, full_refused, nothing_not_full, committed_not_full}
 use Rattle.tup_stored_graph.proofs.Crashes.{as_it_was, crash_now, sound_after}
 use Rattle.tup_stored_graph.proofs.Short.{needed_short}
 use Rattle.tup_stored_graph.proofs.graph.Graph.commit_edits.Goals as goal
@@ -98,3 +98,18 @@ invariant_of-self-2 g c = λ whole.
     let written = written_now old inside c.self.view_is c.args.edits c.entries-2.result.now c.in_ok-changes.changes.items c.entries-2.ensures c.in_ok-changes.ensures.0 in
     sound_after g.S.Site.world g.S.Site.moment g.S.Site.left_since old inside c.self.view_is c.args.edits c.args.site.now up (λ origin. c.requires.read origin up is c.in_ok-changes.ensures.1) c.deref.result.now (c.deref.ensures.value ∙ written)
     c.commit.new.self c.edit_all.new.self c.in_ok-commit.ensures.leaves c.in_ok-edit_all.ensures.ok
+
+pub returns-then-is_empty-clause-full : goal.returns-then-is_empty-clause-full
+returns-then-is_empty-clause-full g c = λ full.
+    let old = c.args.self.now in
+    let inside : Held = record { table = c.self.inside.table; nodes = c.self.inside.nodes; whole = c.self.inside.whole } in
+    let written = written_now old inside c.self.view_is c.args.edits c.entries-2.result.now c.in_ok-changes.changes.items c.entries-2.ensures c.in_ok-changes.ensures.0 in
+    let none = no_items c.in_ok-changes.changes.items (omega (arith, eqb-true _ 0 (sym c.is_empty.ensures ∙ c.if-is_empty.true), c.in_ok-changes.changes.ok.0)) in
+    absurd (nothing_not_full old inside c.self.view_is c.args.edits (sym written ∙ none) c.in_ok-changes.ensures.1 full)
+
+pub returns-clause-full : goal.returns-clause-full
+returns-clause-full g c = λ full.
+    let old = c.args.self.now in
+    let inside : Held = record { table = c.self.inside.table; nodes = c.self.inside.nodes; whole = c.self.inside.whole } in
+    let written = written_now old inside c.self.view_is c.args.edits c.entries-2.result.now c.in_ok-changes.changes.items c.entries-2.ensures c.in_ok-changes.ensures.0 in
+    absurd (committed_not_full old inside c.self.view_is c.args.edits c.deref.result.now (c.deref.ensures.value ∙ written) c.in_ok-changes.ensures.1 c.commit.result c.in_ok-commit.field-0 c.in_ok-commit.was c.commit.ensures.fits full)
