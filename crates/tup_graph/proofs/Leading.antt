@@ -34,10 +34,10 @@ use Rattle.tup_graph.proofs.Slots.{record_of, away, over, same_rules}
 abbrev AreOthers : List ℕ → Standing → Type 0
 AreOthers k es = AllByRecursion (λ (x : List ℕ × Entry). k ≢ x.0) es
 
-abbrev ComeAfter : List ℕ → Standing → Type 0
+abbrev pub ComeAfter : List ℕ → Standing → Type 0
 ComeAfter k es = AllByRecursion (λ (x : List ℕ × Entry). by_bytes k x.0 ≡ Less) es
 
-less_differs : (k x : List ℕ) → by_bytes k x ≡ Less → k ≢ x
+pub less_differs : (k x : List ℕ) → by_bytes k x ≡ Less → k ≢ x
 less_differs k x less same = absurd (let no : Less ≡ Equal = sym (subst (λ (t : List ℕ). by_bytes k t ≡ Less) (sym same) less) ∙ tied_itself nat_list_cmp_total k in cc)
 
 after_others : (k : List ℕ) (es : Standing) → ComeAfter k es → AreOthers k es

@@ -3,6 +3,7 @@ pub mod Marks
 pub mod Slots
 pub mod Leading
 pub mod Opened
+pub mod PutLate
 pub mod Numbers
 pub mod Bare
 pub mod Turns

@@ -77,11 +77,11 @@ broken_at entries left rest x g so_far first refused = record {
 }
 
 -- ---- one entry
-pub took : {T : Type 0} (g next : GraphState) (entry : List ℕ × Entry) (found : Record) (result : Result T GraphFault) → IsSpelled entry.0 entry.1.value found → fits g found ≡ true
-    → OnOk result (next ≡ put g found) → IfErr result (λ fault. fault ≡ GraphMemory)
-    → MatchResult result (λ _. (r : Record) × Takes g entry r × (next ≡ put g r)) (λ fault. (fault ≡ GraphMemory) ⊎ ((fault ≡ BadStore entry.1.origin) × ((r : Record) → Takes g entry r → ⊥)))
-took g next entry found (Ok x) spelled fit is memory = (found, (spelled, fit), is)
-took g next entry found (Err fault) spelled fit is memory = inl memory
+pub took : {T : Type 0} (Held : Record → Type 0) (g : GraphState) (entry : List ℕ × Entry) (found : Record) (result : Result T GraphFault) → IsSpelled entry.0 entry.1.value found → fits g found ≡ true
+    → OnOk result (Held found) → IfErr result (λ fault. fault ≡ GraphMemory)
+    → MatchResult result (λ _. (r : Record) × Takes g entry r × Held r) (λ fault. (fault ≡ GraphMemory) ⊎ ((fault ≡ BadStore entry.1.origin) × ((r : Record) → Takes g entry r → ⊥)))
+took Held g entry found (Ok x) spelled fit held memory = (found, (spelled, fit), held)
+took Held g entry found (Err fault) spelled fit held memory = inl memory
 
 pub refused_by : (g : GraphState) (entry : List ℕ × Entry) (fault : RecordFault) → ((r : Record) → IsSpelled entry.0 entry.1.value r → Gives (Err fault) (Ok r))
     → (refusal fault entry.1.origin ≡ GraphMemory) ⊎ ((refusal fault entry.1.origin ≡ BadStore entry.1.origin) × ((r : Record) → Takes g entry r → ⊥))

@@ -12,3 +12,4 @@ pub mod Scan
 pub mod Swap
 pub mod Reach
 pub mod Owners
+pub mod Late

@@ -15,6 +15,7 @@ mod fault;
 mod finish;
 mod flag;
 mod forget;
+mod late;
 mod laws;
 mod nodes;
 mod opening;

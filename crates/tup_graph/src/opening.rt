@@ -1,12 +1,14 @@
 //! The graph that the entries of a table stand for.
 ghost use Rattle.std.specs.Prelude.{◌≡◌, ◌⊎◌, ℕ, MatchResult, OnErr};
-ghost use Rattle.tup_graph.specs.Opening.{Takes, IsGraphOf, IsBroken, put as put_of, refusal as refusal_of};
+ghost use Rattle.tup_graph.specs.Late.{IsHeld};
+ghost use Rattle.tup_graph.specs.Opening.{Takes, IsGraphOf, IsBroken, refusal as refusal_of};
 ghost use Rattle.tup_record.specs.declared.record.Record.{Record as RecordValue};
 
 use crate::fault::GraphFault;
+use crate::late::Late;
 use crate::nodes::Nodes;
 use std::alloc::Global;
-use tup_path::Bytes;
+use tup_path::{Bytes, Items};
 use tup_record::{RecordFault, decode};
 use tup_table::{Entries, Entry};
 
@@ -18,27 +20,37 @@ pub fn read_graph(alloc: Global, entries: &Entries) -> Result<Nodes, GraphFault>
         (λ fault. (fault ≡ GraphFault.Memory)
         ⊎ ((offset : ℕ) × (fault ≡ GraphFault.BadStore offset) × IsBroken entries.now offset)) }
 {
+    entries.keys_ascend();
     let mut graph = Nodes::empty(alloc);
+    let mut late = Items::new(alloc);
     for (key, slot) in entries.iter() {
         if let Some(entry) = slot {
-            graph.take(alloc, key, entry)?;
+            graph.take(alloc, &mut late, key, entry)?;
         }
     }
+    graph.put_late(late)?;
     Ok(graph)
 }
 
 impl Nodes {
-    /// Takes the record of an entry in, if it is one that fits. After a refusal the graph is of no use.
-    fn take(&mut self, alloc: Global, key: &Bytes, entry: &Entry) -> Result<(), GraphFault>
+    /// Takes the record of an entry in, or holds it behind those that are put in last, if it is one that fits. After a refusal
+    /// the graph is of no use.
+    fn take(
+        &mut self,
+        alloc: Global,
+        late: &mut Items<Late>,
+        key: &Bytes,
+        entry: &Entry,
+    ) -> Result<(), GraphFault>
         ensures { MatchResult result
-            (λ _. (r : RecordValue) × Takes self.old (key.now, entry.now) r × (self.new
-            ≡ put_of self.old r))
+            (λ _. (r : RecordValue) × Takes self.old (key.now, entry.now) r
+            × IsHeld r self.old late.old self.new late.new)
             (λ fault. (fault ≡ GraphFault.Memory)
             ⊎ ((fault ≡ GraphFault.BadStore entry.now.origin)
             × ((r : RecordValue) → Takes self.old (key.now, entry.now) r → ⊥))) }
     {
         match decode(alloc, key, &entry.value) {
-            Ok(found) if self.fits(&found) => self.put(found),
+            Ok(found) if self.fits(&found) => self.hold(late, found),
             Ok(_) => Err(GraphFault::BadStore {
                 offset: entry.origin,
             }),

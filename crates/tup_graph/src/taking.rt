@@ -3,12 +3,15 @@ ghost use Rattle.std.specs.Prelude.{◌≡◌, ◌++◌, ◌∷◌, [], OnOk, If
 ghost use Rattle.std.specs.FinMap as finite;
 ghost use Rattle.std.specs.Option.{option_copied};
 ghost use Rattle.tup_graph.specs.Graph.{empty_graph};
+ghost use Rattle.tup_graph.specs.Late.{AreApart, IsHeld, with_late};
 ghost use Rattle.tup_graph.specs.Opening.{fits as fits_of, put as put_of, comes_behind, last_of};
 
 use crate::fault::GraphFault;
+use crate::late::Late;
 use crate::nodes::Nodes;
 use crate::owned::Owned;
 use std::cmp::Ordering;
+use tup_path::Items;
 use tup_record::Record;
 use tup_rule::Rule;
 
@@ -71,5 +74,35 @@ impl Nodes {
             Record::Create { dir } => Ok(self.created.insert(dir, ())?),
             Record::Modify { number } => Ok(self.flags.insert(number, ())?),
         }
+    }
+
+    /// Takes a record in, or holds it behind those that are put in last. After a refusal the graph is of no use.
+    pub(crate) fn hold(&mut self, late: &mut Items<Late>, entry: Record) -> Result<(), GraphFault>
+        ensures ok { OnOk result (IsHeld entry self.old late.old self.new late.new) }
+        ensures err { IfErr result (λ fault. fault ≡ GraphFault.Memory) }
+    {
+        match entry {
+            Record::Seen { path, stamp } => Ok(late.push(Late::Seen { path, stamp })?),
+            Record::Owned { path, maker, state } => {
+                let owned = Owned { maker, state };
+                Ok(late.push(Late::Owned { path, owned })?)
+            }
+            other => self.put(other),
+        }
+    }
+
+    /// Puts in the records that were held, the last one first. They were held in the order of keys, in which paths ascend whose
+    /// names are as long as each other. So many come before all that are there, and a map compares them with one path of each
+    /// node alone.
+    pub(crate) fn put_late(&mut self, late: Items<Late>) -> Result<(), GraphFault>
+        requires { AreApart late }
+        ensures ok { OnOk result (self.new ≡ with_late self.old late) }
+        ensures err { IfErr result (λ fault. fault ≡ GraphFault.Memory) }
+    {
+        let mut left = late.into_vec();
+        'left: while let Some(one) = left.pop() {
+            self.put(one.into_record())?;
+        }
+        Ok(())
     }
 }

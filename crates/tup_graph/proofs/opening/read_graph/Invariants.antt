@@ -1,6 +1,6 @@
 use Rattle.tup_table.specs.Slots.{standing}
-use Rattle.tup_graph.proofs.Opened.{IsSoFar}
+use Rattle.tup_graph.proofs.PutLate.{IsLoading}
 use Rattle.tup_graph.proofs.opening.read_graph.Given as goal
 
 abbrev pub invariant-loop-key : goal.invariant-loop-key
-invariant-loop-key l = IsSoFar l.entries (standing l.key-iterator) l.graph
+invariant-loop-key l = IsLoading l.entries (standing l.key-iterator) l.graph l.late

@@ -4,7 +4,7 @@ use Rattle.tup_graph.proofs.nodes.Nodes.take.Goals as goal
 
 pub returns-in-Ok : goal.returns-in-Ok
 returns-in-Ok c =
-    took c.args.self.now c.put.new.self (c.args.key.now, c.args.entry.now) c.in-Ok.found c.put.result c.in-Ok.ensures.found (sym c.fits.ensures ∙ c.if-fits.true) c.put.ensures.ok c.put.ensures.err
+    took _ c.args.self.now (c.args.key.now, c.args.entry.now) c.in-Ok.found c.hold.result c.in-Ok.ensures.found (sym c.fits.ensures ∙ c.if-fits.true) c.hold.ensures.ok c.hold.ensures.err
 
 pub returns-in-Ok-2 : goal.returns-in-Ok-2
 returns-in-Ok-2 c = refused_unfit c.args.self.now (c.args.key.now, c.args.entry.now) c.in-Ok.found (sym c.fits.ensures ∙ c.if-fits.false) c.in-Ok.ensures.only
