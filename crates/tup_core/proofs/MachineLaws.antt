@@ -40,7 +40,7 @@ ready_by_test plan core at is passes =
       pending = first.1;
       unclaimed = not-true (flag core.claimed.items at) third.1;
       going = is_gone core.stopped first.0;
-      clear = (found.0, found.1, λ other produced. clear_waits plan.rules (is_reached plan) core.pending.items core.waiting is.waiting is.reached is.settled at other found.0 found.1 none produced);
+      clear = (found.0, found.1, λ other produced. clear_waits plan.rules (is_reached plan) core.pending.items core.waiting is.waiting is.settled at other found.0 found.1 (is.reached at first.1) none produced);
     }
 
 test_by_ready : (plan : Plan) (core : Core) (at : ℕ) → IsCore plan core → IsReady plan (state_of core) at → ready_test core at ≡ true

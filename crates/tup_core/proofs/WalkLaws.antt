@@ -7,8 +7,8 @@ use Rattle.std.proofs.lemmas.List.{length-set, length_push, take_more, get_or_re
 use Rattle.std.proofs.lemmas.List.Sums.{sum_by-set}
 use Rattle.tup_clean.specs.Queue.{count_of}
 use Rattle.tup_clean.proofs.Counting.{one_if-same, one_if-other, count_of-push, count_of-here}
-use Rattle.tup_core.specs.Waiting.{flag, number, times, AreDown, AreWithin, AreWaiters}
-use Rattle.tup_core.specs.Walk.{AreFlagged, Notes, follows, IsWalked}
+use Rattle.tup_core.specs.Waiting.{flag, number, times, AreDown, AreWithin, AreOnce, AreBehind, AreEntries, AreWaiters, LeadsOver}
+use Rattle.tup_core.specs.Walk.{AreFlagged, Notes, Raises, follows, readers_if, IsWalked}
 use Rattle.tup_core.proofs.ItemLaws.{set_same, set_other, flag_within, number_front}
 
 -- ---- counts
@@ -209,22 +209,212 @@ walked_more readers pending from found next seen at new now walked less is notes
     nearer : (n m : ℕ) → (n ≡ m → ⊥) → n < m + 1 → n < m
     nearer n m apart below = omega arith
 
--- at the end all waiters were found
-pub walked_waiters : (readers : List (List ℕ)) (pending : List Bool) (from : ℕ) (found : List ℕ) (seen : List Bool) → flag pending from ≡ true → IsWalked readers pending from found (length found) seen → AreWaiters readers pending from found
-walked_waiters readers pending from found seen up walked = record {
-  none = λ down. absurd (true≢false (sym up ∙ down));
-  first = λ still at some. count_from seen found at walked.flagged (walked.first at some);
-  onward = λ next at some down reads.
-      let place = found_at found next some in
-      count_from seen found at walked.flagged
-      (walked.onward place.0 place.1 at (subst (λ (n : ℕ). 0 < count_of at (follows readers pending n)) (sym place.2) (reads_follows readers pending next at down reads)));
-  led = λ at some. walked.led at (flag_of seen found at walked.flagged some);
-  once = λ at. subst (λ (n : ℕ). n ≤ 1) (sym (walked.flagged at)) (small (flag seen at));
-}
+-- no place stands twice among those that were found
+found_once : (seen : List Bool) (found : List ℕ) (at : ℕ) → AreFlagged seen found → count_of at found ≤ 1
+found_once seen found at all = subst (λ (n : ℕ). n ≤ 1) (sym (all at)) (small (flag seen at))
   where
     small : (b : Bool) → (if b then 1 else 0) ≤ 1
     small true = omega arith
     small false = omega arith
+
+none_flagged : (seen : List Bool) → AreDown seen → AreFlagged seen []
+none_flagged seen down = λ at. sym (ap (λ (b : Bool). if b then 1 else 0) (down at))
+
+-- what is noted of the readers of a rule are these
+pub noted_once : (readers : List (List ℕ)) (from : ℕ) (list : List ℕ) (seen new : List Bool) (found : List ℕ) → AreDown seen → list ≡ unwrap_or (slice_get readers from) [] → Notes list seen [] new found → AreOnce readers from found
+noted_once readers from list seen new found down is notes = record {
+  all = λ at some. count_from new found at flagged (notes.noted at (subst (λ (l : List ℕ). 0 < count_of at l) (sym is) some));
+  only = λ at some. elim (notes.others at (flag_of new found at flagged some)) [
+    | inl was ↦ absurd (true≢false (sym was ∙ down at))
+    | inr listed ↦ subst (λ (l : List ℕ). 0 < count_of at l) is listed
+  ];
+  once = λ at. found_once new found at flagged;
+}
+  where
+    flagged : AreFlagged new found
+    flagged = notes.flagged (none_flagged seen down)
+
+pub noted_flagged : (list : List ℕ) (seen new : List Bool) (found : List ℕ) → AreDown seen → Notes list seen [] new found → AreFlagged new found
+noted_flagged list seen new found down notes = notes.flagged (none_flagged seen down)
+
+-- at the end all was found to which the rule leads over others that weren't reached
+walked_over : (readers : List (List ℕ)) (reached : List Bool) (from : ℕ) (found : List ℕ) (seen : List Bool) → IsWalked readers reached from found (length found) seen → (between at : ℕ) → LeadsOver between readers reached from at → flag seen at ≡ true
+walked_over readers reached from found seen walked zero at some = walked.first at some
+walked_over readers reached from found seen walked (suc between) at (next, leads, outside, some) =
+    let place = found_at found next (count_from seen found next walked.flagged (walked_over readers reached from found seen walked between next leads)) in
+    walked.onward place.0 place.1 at (subst (λ (n : ℕ). 0 < count_of at (follows readers reached n)) (sym place.2) (reads_follows readers reached next at outside some))
+
+-- and the reached ones of these are behind it
+pub walked_behind : (readers : List (List ℕ)) (reached : List Bool) (from : ℕ) (found list : List ℕ) (seen : List Bool) → IsWalked readers reached from found (length found) seen →
+    ((at : ℕ) → count_of at list ≡ (if flag reached at then count_of at found else 0)) → AreBehind readers reached from list
+walked_behind readers reached from found list seen walked kept = record {
+  all = λ between at leads inside.
+      let some = count_from seen found at walked.flagged (walked_over readers reached from found seen walked between at leads) in
+      subst (λ (n : ℕ). 0 < n) (sym (of_reached at inside)) some;
+  inner = inner;
+  led = λ at some. walked.led at (flag_of seen found at walked.flagged (subst (λ (n : ℕ). 0 < n) (of_reached at (inner at some)) some));
+  once = λ at. elim (cases_Bool (flag reached at)) [
+    | inl up ↦ subst (λ (n : ℕ). n ≤ 1) (sym (of_reached at up)) (found_once seen found at walked.flagged)
+    | inr down ↦ let none = of_others at down in omega (arith, none)
+  ];
+}
+  where
+    of_reached : (at : ℕ) → flag reached at ≡ true → count_of at list ≡ count_of at found
+    of_reached at up = kept at ∙ ap (λ (b : Bool). if b then count_of at found else 0) up
+
+    of_others : (at : ℕ) → flag reached at ≡ false → count_of at list ≡ 0
+    of_others at down = kept at ∙ ap (λ (b : Bool). if b then count_of at found else 0) down
+
+    inner : (at : ℕ) → 0 < count_of at list → flag reached at ≡ true
+    inner at some = true_from_ne_false (flag reached at) (λ down. let none = of_others at down in omega (arith, none, some))
+
+-- ---- what waits for a rule, in each case
+
+pub once_waiters : (readers : List (List ℕ)) (reached entries : List Bool) (from : ℕ) → flag reached from ≡ true → (list : List ℕ) → AreOnce readers from list → AreWaiters readers reached entries from list
+once_waiters readers reached entries from up list once = record {
+  listed = λ _. once;
+  behind = λ down _. absurd (true≢false (sym up ∙ down));
+  others = λ down _. absurd (true≢false (sym up ∙ down));
+}
+
+pub behind_waiters : (readers : List (List ℕ)) (reached entries : List Bool) (from : ℕ) → flag reached from ≡ false → flag entries from ≡ true → (list : List ℕ) → AreBehind readers reached from list → AreWaiters readers reached entries from list
+behind_waiters readers reached entries from down entry list behind = record {
+  listed = λ up. absurd (true≢false (sym up ∙ down));
+  behind = λ _ _. behind;
+  others = λ _ none. absurd (true≢false (sym entry ∙ none));
+}
+
+pub no_waiters : (readers : List (List ℕ)) (reached entries : List Bool) (from : ℕ) → flag reached from ≡ false → flag entries from ≡ false → (list : List ℕ) → list ≡ [] → AreWaiters readers reached entries from list
+no_waiters readers reached entries from down none list is = record {
+  listed = λ up. absurd (true≢false (sym up ∙ down));
+  behind = λ _ entry. absurd (true≢false (sym entry ∙ none));
+  others = λ _ _. is;
+}
+
+-- ---- places whose flags are up
+
+-- one of them more, or one that isn't
+pub flagged_more : (places : List ℕ) (i place : ℕ) (flags : List Bool) (old new : List ℕ) → i < length places → place ≡ get_or places i 0 → ((at : ℕ) → count_of at old ≡ (if flag flags at then count_of at (take i places) else 0)) →
+    ((at : ℕ) → count_of at new ≡ count_of at old + (if flag flags at then count_of at (place ∷ []) else 0)) → (at : ℕ) → count_of at new ≡ (if flag flags at then count_of at (take (i + 1) places) else 0)
+flagged_more places i place flags old new less here before one at =
+    now at ∙ by (flag flags at)
+  where
+    now : (k : ℕ) → count_of k new ≡ (if flag flags k then count_of k (take i places) else 0) + (if flag flags k then count_of k (place ∷ []) else 0)
+    now k = one k ∙ ap (λ (n : ℕ). n + (if flag flags k then count_of k (place ∷ []) else 0)) (before k)
+
+    by : (b : Bool) → ◌≡◌ {A = ℕ} ((if b then count_of at (take i places) else 0) + (if b then count_of at (place ∷ []) else 0)) (if b then count_of at (take (i + 1) places) else 0)
+    by false = refl
+    by true =
+        let grown : take (i + 1) places ≡ take i places ++ place ∷ [] = take_more places i 0 less ∙ ap (λ (p : ℕ). take i places ++ p ∷ []) (sym here) in
+        let sum = count_of-push at (take i places) place in
+        let same : count_of at (take (i + 1) places) ≡ count_of at (take i places ++ place ∷ []) = ap (count_of at) grown in
+        omega (arith, sum, same)
+
+-- a place whose flag isn't up, and one whose flag is
+if_place : (flags : List Bool) (place at : ℕ) (b : Bool) → flag flags place ≡ b → ◌≡◌ {A = ℕ} (if flag flags at then count_of at (place ∷ []) else 0) (if b then count_of at (place ∷ []) else 0)
+if_place flags place at b is = elim (cases_eq at place) [
+  | inl same ↦ ap (λ (x : Bool). if x then count_of at (place ∷ []) else 0) (ap (flag flags) same ∙ is)
+  | inr apart ↦
+      let none : count_of at (place ∷ []) ≡ 0 = (let one = one_if-other place at (λ same. apart (sym same)) in omega (arith, one)) in
+      ap (λ (n : ℕ). if flag flags at then n else 0) none ∙ both (flag flags at) b ∙ ap (λ (n : ℕ). if b then n else 0) (sym none)
+]
+  where
+    nothing_of : (b : Bool) → ◌≡◌ {A = ℕ} (if b then 0 else 0) 0
+    nothing_of true = refl
+    nothing_of false = refl
+
+    both : (a b : Bool) → ◌≡◌ {A = ℕ} (if a then 0 else 0) (if b then 0 else 0)
+    both a b = nothing_of a ∙ sym (nothing_of b)
+
+pub kept_none : (flags : List Bool) (place : ℕ) (list : List ℕ) → flag flags place ≡ false → (at : ℕ) → count_of at list ≡ count_of at list + (if flag flags at then count_of at (place ∷ []) else 0)
+kept_none flags place list down at = let none = if_place flags place at false down in omega (arith, none)
+
+pub kept_one : (flags : List Bool) (place : ℕ) (list new : List ℕ) → flag flags place ≡ true → new ≡ list ++ place ∷ [] → (at : ℕ) → count_of at new ≡ count_of at list + (if flag flags at then count_of at (place ∷ []) else 0)
+kept_one flags place list new up is at =
+    let one = if_place flags place at true up in
+    let sum = count_of-push at list place in
+    let same : count_of at new ≡ count_of at (list ++ place ∷ []) = ap (count_of at) is in
+    omega (arith, one, sum, same)
+
+-- ---- flags that are put up
+
+pub raised_none : (flags : List Bool) → Raises [] flags flags
+raised_none flags = record { many = refl; up = λ at some. absurd (omega arith); kept = λ at up. up; others = λ at up. inl up }
+
+pub raised_more : (places : List ℕ) (i place : ℕ) (old flags : List Bool) → i < length places → place ≡ get_or places i 0 → place < length flags → Raises (take i places) old flags → Raises (take (i + 1) places) old (slice_set flags place true)
+raised_more places i place old flags less here within done = record {
+  many = length-set flags place true ∙ done.many;
+  up = λ at some. elim (cases_eq at place) [
+    | inl same ↦ raised at same
+    | inr apart ↦ set_other flags place at true false apart ∙ elim (in_push (take i places) place at (subst (λ (l : List ℕ). 0 < count_of at l) grown some)) [
+      | inl front ↦ done.up at front
+      | inr last ↦ absurd (apart (sym (counted_one place at last)))
+    ]
+  ];
+  kept = λ at up. elim (cases_eq at place) [
+    | inl same ↦ raised at same
+    | inr apart ↦ set_other flags place at true false apart ∙ done.kept at up
+  ];
+  others = λ at up. elim (cases_eq at place) [
+    | inl same ↦ inr (subst (λ (l : List ℕ). 0 < count_of at l) (sym grown) (push_last (take i places) place at (count_one place at (sym same))))
+    | inr apart ↦ elim (done.others at (sym (set_other flags place at true false apart) ∙ up)) [
+      | inl was ↦ inl was
+      | inr front ↦ inr (subst (λ (l : List ℕ). 0 < count_of at l) (sym grown) (push_front (take i places) place at front))
+    ]
+  ];
+}
+  where
+    grown : take (i + 1) places ≡ take i places ++ place ∷ []
+    grown = take_more places i 0 less ∙ ap (λ (p : ℕ). take i places ++ p ∷ []) (sym here)
+
+    raised : (at : ℕ) → at ≡ place → flag (slice_set flags place true) at ≡ true
+    raised at same = ap (flag (slice_set flags place true)) same ∙ set_same flags place true false within
+
+-- the flags of the readers of the first rules, if they were reached
+pub record AreRaised (readers : List (List ℕ)) (reached : List Bool) (count : ℕ) (entries : List Bool) : Type 0 where
+  pub many : length entries ≡ length readers
+  pub up : (from at : ℕ) → from < count → flag reached from ≡ true → 0 < times readers from at → flag entries at ≡ true
+  pub only : (at : ℕ) → flag entries at ≡ true → (from : ℕ) × (flag reached from ≡ true) × (0 < times readers from at)
+
+pub raised_start : (readers : List (List ℕ)) (reached entries : List Bool) → length entries ≡ length readers → AreDown entries → AreRaised readers reached 0 entries
+raised_start readers reached entries long down = record {
+  many = long;
+  up = λ from at below. absurd (none from below);
+  only = λ at up. absurd (true≢false (sym up ∙ down at));
+}
+  where
+    none : (n : ℕ) → n < 0 → ⊥
+    none n below = omega arith
+
+pub raised_next : (readers : List (List ℕ)) (reached : List Bool) (count : ℕ) (entries new : List Bool) → AreRaised readers reached count entries → Raises (readers_if readers reached count) entries new → AreRaised readers reached (count + 1) new
+raised_next readers reached count entries new are done = record {
+  many = done.many ∙ are.many;
+  up = λ from at below inside some. elim (cases_eq from count) [
+    | inl same ↦ done.up at (raises_some count at (ap (flag reached) (sym same) ∙ inside) (subst (λ (n : ℕ). 0 < times readers n at) same some))
+    | inr apart ↦ done.kept at (are.up from at (nearer from apart below) inside some)
+  ];
+  only = λ at up. elim (done.others at up) [
+    | inl was ↦ are.only at was
+    | inr some ↦ let both = some_raises at (flag reached count) refl some in (count, both.0, both.1)
+  ];
+}
+  where
+    nearer : (n : ℕ) → (n ≡ count → ⊥) → n < count + 1 → n < count
+    nearer n apart below = omega arith
+
+    raises_some : (n at : ℕ) → flag reached n ≡ true → 0 < times readers n at → 0 < count_of at (readers_if readers reached n)
+    raises_some n at up some = subst (λ (l : List ℕ). 0 < count_of at l) (sym (ap (λ (b : Bool). if b then unwrap_or (slice_get readers n) [] else []) up)) some
+
+    some_raises : (at : ℕ) (b : Bool) → flag reached count ≡ b → 0 < count_of at (if b then unwrap_or (slice_get readers count) [] else []) → (flag reached count ≡ true) × (0 < times readers count at)
+    some_raises at true up some = (up, some)
+    some_raises at false down some = absurd (omega arith)
+
+pub raised_all : (readers : List (List ℕ)) (reached entries : List Bool) (count : ℕ) → AreWithin readers → length reached ≡ length readers → AreRaised readers reached count entries → length readers ≤ count → AreEntries readers reached entries
+raised_all readers reached entries count within long are all = record {
+  many = are.many;
+  up = λ from at inside some. are.up from at (let below = flag_within reached from inside in omega (arith, below, long, all)) inside some;
+  only = are.only;
+}
 
 -- ---- flags that are taken down
 

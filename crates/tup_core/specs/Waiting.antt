@@ -1,6 +1,9 @@
--- Which rules wait for pending ones, as the code of a core keeps it: a list of waiting rules for each rule, and in how
--- many lists of pending rules each one stands (own).
-use Rattle.std.specs.Prelude.{◌≡◌, ℕ, zero, suc, ◌+◌, ◌<◌, ◌≤◌, Bool, true, false, if◌then◌else◌, List, [], ◌∷◌, length, Some, slice_get, unwrap_or}
+-- Which rules wait for pending ones, as the code of a core keeps it (own).
+-- A rule that was reached has a list of its readers. One that wasn't reached is never pending, but its readers wait for what it
+-- declares. If it reads what a reached rule makes, it has a list of the reached rules behind it, to which it leads over others that
+-- weren't reached. For each rule it is counted in how many lists it stands: those of pending rules, and those of rules that weren't
+-- reached and are counted somewhere themselves. So it takes a number for each link, and not for each pair of rules at its ends.
+use Rattle.std.specs.Prelude.{◌≡◌, ℕ, zero, suc, ◌+◌, ◌<◌, ◌≤◌, ◌==◌, nat_lt, Bool, true, false, not, ◌&&◌, if◌then◌else◌, List, [], ◌∷◌, length, Some, slice_get, unwrap_or}
 use Rattle.tup_rule.specs.declared.rule.Rule.{Rule}
 use Rattle.tup_rule.specs.Producer.{MakesFor, DeclaredProducer}
 use Rattle.tup_clean.specs.Queue.{count_of}
@@ -31,18 +34,40 @@ abbrev pub Leads : ℕ → List (List ℕ) → ℕ → ℕ → Type 0
 Leads zero lists from at = 0 < times lists from at
 Leads (suc between) lists from at = (next : ℕ) × Leads between lists from next × (0 < times lists next at)
 
--- what waits for a rule: if it is pending, its readers and the readers of each that waits and isn't pending itself
-pub record AreWaiters (readers : List (List ℕ)) (pending : List Bool) (from : ℕ) (waiters : List ℕ) : Type 0 where
-  pub none : flag pending from ≡ false → waiters ≡ []
-  pub first : flag pending from ≡ true → (at : ℕ) → 0 < times readers from at → 0 < count_of at waiters
-  pub onward : (next at : ℕ) → 0 < count_of next waiters → flag pending next ≡ false → 0 < times readers next at → 0 < count_of at waiters
-  pub led : (at : ℕ) → 0 < count_of at waiters → (between : ℕ) × Leads between readers from at
-  pub once : (at : ℕ) → count_of at waiters ≤ 1
+-- the same, where none of those between them was reached
+abbrev pub LeadsOver : ℕ → List (List ℕ) → List Bool → ℕ → ℕ → Type 0
+LeadsOver zero lists reached from at = 0 < times lists from at
+LeadsOver (suc between) lists reached from at = (next : ℕ) × LeadsOver between lists reached from next × (flag reached next ≡ false) × (0 < times lists next at)
+
+-- the readers of a rule, each once
+pub record AreOnce (readers : List (List ℕ)) (from : ℕ) (list : List ℕ) : Type 0 where
+  pub all : (at : ℕ) → 0 < times readers from at → 0 < count_of at list
+  pub only : (at : ℕ) → 0 < count_of at list → 0 < times readers from at
+  pub once : (at : ℕ) → count_of at list ≤ 1
+
+-- the reached rules to which a rule leads over others that weren't reached, each once
+pub record AreBehind (readers : List (List ℕ)) (reached : List Bool) (from : ℕ) (list : List ℕ) : Type 0 where
+  pub all : (between at : ℕ) → LeadsOver between readers reached from at → flag reached at ≡ true → 0 < count_of at list
+  pub inner : (at : ℕ) → 0 < count_of at list → flag reached at ≡ true
+  pub led : (at : ℕ) → 0 < count_of at list → (between : ℕ) × Leads between readers from at
+  pub once : (at : ℕ) → count_of at list ≤ 1
+
+-- the flags of the readers of reached rules are up
+pub record AreEntries (readers : List (List ℕ)) (reached entries : List Bool) : Type 0 where
+  pub many : length entries ≡ length readers
+  pub up : (from at : ℕ) → flag reached from ≡ true → 0 < times readers from at → flag entries at ≡ true
+  pub only : (at : ℕ) → flag entries at ≡ true → (from : ℕ) × (flag reached from ≡ true) × (0 < times readers from at)
+
+-- what waits for a rule: if it was reached, its readers, and else the reached rules behind it, if it reads what a reached rule makes
+pub record AreWaiters (readers : List (List ℕ)) (reached entries : List Bool) (from : ℕ) (waiters : List ℕ) : Type 0 where
+  pub listed : flag reached from ≡ true → AreOnce readers from waiters
+  pub behind : flag reached from ≡ false → flag entries from ≡ true → AreBehind readers reached from waiters
+  pub others : flag reached from ≡ false → flag entries from ≡ false → waiters ≡ []
 
 -- so for each rule
-pub record AreAllWaiters (readers : List (List ℕ)) (pending : List Bool) (lists : List (List ℕ)) : Type 0 where
+pub record AreAllWaiters (readers : List (List ℕ)) (reached entries : List Bool) (lists : List (List ℕ)) : Type 0 where
   pub many : length lists ≡ length readers
-  pub each : (from : ℕ) → from < length readers → AreWaiters readers pending from (unwrap_or (slice_get lists from) [])
+  pub each : (from : ℕ) → from < length readers → AreWaiters readers reached entries from (unwrap_or (slice_get lists from) [])
 
 -- no list has a rule twice
 abbrev pub IsShort : List (List ℕ) → Type 0
@@ -53,29 +78,63 @@ abbrev pub total : List (List ℕ) → ℕ → ℕ
 total [] at = 0
 total (list ∷ lists) at = count_of at list + total lists at
 
--- how often a rule stands in the lists of pending rules
-abbrev pub waits_in : List (List ℕ) → List Bool → ℕ → ℕ
-waits_in [] pending at = 0
-waits_in (list ∷ lists) [] at = 0
-waits_in (list ∷ lists) (up ∷ pending) at = (if up then count_of at list else 0) + waits_in lists pending at
+-- in how many lists of some rules a rule stands
+abbrev pub waits_in : List (List ℕ) → (ℕ → Bool) → ℕ → ℕ
+waits_in [] counted at = 0
+waits_in (list ∷ lists) counted at = (if counted 0 then count_of at list else 0) + waits_in lists (λ from. counted (suc from)) at
 
--- what rules wait for, where some are reached, of which some are still pending
+-- whether the list of a rule counts: of one that was reached while it is pending, of another while it is counted itself
+abbrev pub counts : (ℕ → Bool) → List Bool → List ℕ → ℕ → Bool
+counts reached pending waits from = if reached from then flag pending from else nat_lt 0 (number waits from)
+
+-- a rule is a declared producer of another over so many rules between them that weren't reached
+abbrev pub ProducerBeside : ℕ → List Rule → (ℕ → Bool) → Rule → ℕ → Type 0
+ProducerBeside zero rules reached rule at = MakesFor rules rule at
+ProducerBeside (suc between) rules reached rule at =
+    (next : ℕ) × (other : Rule) × MakesFor rules rule next × (slice_get rules next ≡ Some other) × (reached next ≡ false) × ProducerBeside between rules reached other at
+
+-- lists of rules that weren't reached have reached ones alone
+abbrev pub AreInner : List (List ℕ) → List Bool → Type 0
+AreInner lists reached = (from at : ℕ) → flag reached from ≡ false → 0 < times lists from at → flag reached at ≡ true
+
+-- what rules wait for, where some were reached, of which some are still pending
 pub record IsWaiting (rules : List Rule) (reached : ℕ → Bool) (pending : List Bool) (waiting : Waiting) : Type 0 where
   pub many : length waiting.waiters.items ≡ length rules
-  pub counts : (at : ℕ) → number waiting.waits.items at ≡ waits_in waiting.waiters.items pending at
-  -- a reached rule has those for which it makes a path, and those for which one of its list that isn't reached does
+  pub flags : (at : ℕ) → flag waiting.reached.items at ≡ reached at
+  pub within : (at : ℕ) → flag pending at ≡ true → reached at ≡ true
+  pub counted : (at : ℕ) → number waiting.waits.items at ≡ waits_in waiting.waiters.items (counts reached pending waiting.waits.items) at
+  -- a reached rule has those for which it makes a path
   pub first : (from at : ℕ) (rule : Rule) → reached from ≡ true → slice_get rules at ≡ Some rule → MakesFor rules rule from → 0 < times waiting.waiters.items from at
-  pub onward : (from next at : ℕ) (rule : Rule) → 0 < times waiting.waiters.items from next → reached next ≡ false → slice_get rules at ≡ Some rule → MakesFor rules rule next
-      → 0 < times waiting.waiters.items from at
-  -- and no others than those of which it is a declared producer
+  -- and one of these that wasn't reached has the reached ones behind it, and no others
+  pub behind : (from next between at : ℕ) (rule : Rule) → reached from ≡ true → 0 < times waiting.waiters.items from next → reached next ≡ false → slice_get rules at ≡ Some rule
+      → ProducerBeside between rules reached rule next → reached at ≡ true → 0 < times waiting.waiters.items next at
+  pub inner : AreInner waiting.waiters.items waiting.reached.items
+  -- each is a declared producer of those that it has
   pub led : (from at : ℕ) → 0 < times waiting.waiters.items from at → (rule : Rule) × (slice_get rules at ≡ Some rule) × DeclaredProducer rules rule from
+
+-- numbers that count all lists that count, and one more of which so much is still to be taken away
+abbrev pub AreCounts : List (List ℕ) → List Bool → List Bool → List ℕ → List ℕ → Type 0
+AreCounts lists reached pending left waits = (at : ℕ) → number waits at ≡ waits_in lists (counts (flag reached) pending waits) at + count_of at left
+
+-- whether a rule that wasn't reached is counted once
+abbrev pub is_last : List Bool → List ℕ → ℕ → Bool
+is_last reached waits place = not (flag reached place) && number waits place == 1
+
+-- what is taken away where a rule is counted once less: itself, and its list, if it wasn't reached and is counted no more
+abbrev pub taken : List (List ℕ) → List Bool → List ℕ → ℕ → ℕ → ℕ
+taken lists reached waits place at = count_of at (place ∷ []) + (if is_last reached waits place then times lists place at else 0)
 
 -- the rule at a place can be taken out of what others wait for
 pub record CanRelease (at : ℕ) (waiting : Waiting) : Type 0 where
   pub here : at < length waiting.waiters.items
-  pub counted : (other : ℕ) → times waiting.waiters.items at other ≤ number waiting.waits.items other
+  pub within : AreWithin waiting.waiters.items
+  pub inner : AreInner waiting.waiters.items waiting.reached.items
+  pub held : (pending : List Bool) × AreCounts waiting.waiters.items waiting.reached.items pending (unwrap_or (slice_get waiting.waiters.items at) []) waiting.waits.items
 
--- it was taken out
+-- it was taken out: what was counted beside its list is counted
 pub record Releases (at : ℕ) (old new : Waiting) : Type 0 where
-  pub same : new.waiters ≡ old.waiters
-  pub fewer : (other : ℕ) → number new.waits.items other + times old.waiters.items at other ≡ number old.waits.items other
+  pub lists : new.waiters ≡ old.waiters
+  pub reached : new.reached ≡ old.reached
+  pub fewer : (other : ℕ) → number new.waits.items other ≤ number old.waits.items other
+  pub counted : (pending : List Bool) → AreCounts old.waiters.items old.reached.items pending (unwrap_or (slice_get old.waiters.items at) []) old.waits.items
+      → AreCounts old.waiters.items old.reached.items pending [] new.waits.items

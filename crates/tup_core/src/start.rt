@@ -32,6 +32,17 @@ pub(crate) fn nothing<T: Drop>(alloc: Global, count: usize) -> Result<Vec<Option
     Ok(entries)
 }
 
+/// The same flags.
+pub(crate) fn copied(alloc: Global, flags: &[bool]) -> Result<Vec<bool>, AllocError>
+    ensures { IfOk result (λ copy. copy.items ≡ flags.now) }
+{
+    let mut copy = Vec::new(alloc);
+    for flag in flags {
+        copy.push(*flag)?;
+    }
+    Ok(copy)
+}
+
 /// A flag for each rule: whether it is in the reach.
 pub(crate) fn reached(alloc: Global, plan: &Plan) -> Result<Vec<bool>, AllocError>
     requires { IsInRange plan.now }

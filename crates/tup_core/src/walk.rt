@@ -1,36 +1,105 @@
-//! The rules that wait for one, found by a walk from reader to reader.
-ghost use Rattle.std.specs.Prelude.{◌≡◌, ◌∷◌, ℕ, ◌<◌, [], true, false, IfOk, OnOk, length};
+//! The rules that wait for one: its readers, or those found behind it by a walk from reader to reader.
+ghost use Rattle.std.specs.Prelude.{◌≡◌, ◌+◌, ◌∷◌, ℕ, ◌<◌, [], true, false, if◌then◌else◌, IfOk, OnOk, length};
 ghost use Rattle.tup_clean.specs.Queue.{count_of};
-ghost use Rattle.tup_core.specs.Waiting.{flag, AreWithin, AreWaiters, AreDown};
+ghost use Rattle.tup_core.specs.Waiting.{flag, AreWithin, AreWaiters, AreOnce, AreBehind, AreDown};
 ghost use Rattle.tup_core.specs.Walk.{Notes, IsWalked, follows};
 
+use crate::start::is_up;
 use crate::waiting::Places;
 use std::alloc::{AllocError, Global};
 use tup_path::Items;
 
-/// The rules that wait for a pending one: its readers, and the readers of those among them that aren't pending.
-/// None wait for one that isn't pending. The flags of `seen` are all down, before and afterwards.
+/// The rules that wait for one: its readers, if it was reached. Another leads to the reached rules behind it, and has these, if it reads
+/// what a reached rule makes. The flags of `seen` are all down, before and afterwards.
 pub(crate) fn waiters_of(
     alloc: Global,
     readers: &[Places],
-    pending: &[bool],
+    reached: &[bool],
+    entries: &[bool],
     from: usize,
     seen: &mut [bool],
 ) -> Result<Places, AllocError>
     requires within { AreWithin readers.now }
     requires from { from < length readers.now }
-    requires pending { length pending.now ≡ length readers.now }
+    requires reached { length reached.now ≡ length readers.now }
+    requires entries { length entries.now ≡ length readers.now }
     requires seen { length seen.old ≡ length readers.now }
     requires down { AreDown seen.old }
     ensures down { OnOk result (AreDown seen.new) }
-    ensures waiters { IfOk result (AreWaiters readers.now pending.now from) }
+    ensures waiters { IfOk result (AreWaiters readers.now reached.now entries.now from) }
 {
-    if !pending[from] {
-        return Ok(Items::new(alloc));
+    if reached[from] {
+        return readers_once(alloc, readers, from, seen);
     }
-    let found = walk(alloc, readers, pending, from, seen)?;
+    if entries[from] {
+        return behind(alloc, readers, reached, from, seen);
+    }
+    Ok(Items::new(alloc))
+}
+
+/// The readers of a rule, each once.
+fn readers_once(
+    alloc: Global,
+    readers: &[Places],
+    from: usize,
+    seen: &mut [bool],
+) -> Result<Places, AllocError>
+    requires within { AreWithin readers.now }
+    requires from { from < length readers.now }
+    requires seen { length seen.old ≡ length readers.now }
+    requires down { AreDown seen.old }
+    ensures down { OnOk result (AreDown seen.new) }
+    ensures once { IfOk result (AreOnce readers.now from) }
+{
+    let mut found = Items::new(alloc);
+    note_all(readers[from].as_slice(), seen, &mut found)?;
     lower(found.as_slice(), seen);
     Ok(found)
+}
+
+/// The reached rules to which one leads over others that weren't reached.
+fn behind(
+    alloc: Global,
+    readers: &[Places],
+    reached: &[bool],
+    from: usize,
+    seen: &mut [bool],
+) -> Result<Places, AllocError>
+    requires within { AreWithin readers.now }
+    requires from { from < length readers.now }
+    requires reached { length reached.now ≡ length readers.now }
+    requires seen { length seen.old ≡ length readers.now }
+    requires down { AreDown seen.old }
+    ensures down { OnOk result (AreDown seen.new) }
+    ensures behind { IfOk result (AreBehind readers.now reached.now from) }
+{
+    let found = walk(alloc, readers, reached, from, seen)?;
+    lower(found.as_slice(), seen);
+    flagged(alloc, found.as_slice(), reached)
+}
+
+/// Those of some rules whose flags are up.
+fn flagged(alloc: Global, places: &[usize], flags: &[bool]) -> Result<Places, AllocError>
+    ensures { IfOk result (λ kept. (at : ℕ) → count_of at kept
+        ≡ (if flag flags.now at then count_of at places.now else 0)) }
+{
+    let mut kept = Items::new(alloc);
+    for place in places {
+        keep(*place, flags, &mut kept)?;
+    }
+    Ok(kept)
+}
+
+/// Keeps a rule, if its flag is up.
+fn keep(place: usize, flags: &[bool], kept: &mut Places) -> Result<(), AllocError>
+    ensures { OnOk result ((at : ℕ) → count_of at kept.new ≡ count_of at kept.old
+        + (if flag flags.now at then count_of at (place ∷ []) else 0)) }
+{
+    if !is_up(flags, place) {
+        return Ok(());
+    }
+    kept.push(place)?;
+    Ok(())
 }
 
 /// Goes from the readers of a rule to their readers, as far as the rules on the way aren't pending. What was

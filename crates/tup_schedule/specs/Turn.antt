@@ -1,7 +1,12 @@
 -- Which rules may be claimed as soon as nothing is stopped, told by marks (own).
-use Rattle.std.specs.Prelude.{◌≡◌, ℕ, ◌^◌, ◌<◌, ◌≤◌, true, false, length, Some, slice_get, IsTrue, ◌↔◌}
+use Rattle.std.specs.Prelude.{◌≡◌, ℕ, ◌^◌, ◌<◌, ◌≤◌, ◌⊎◌, true, false, List, length, Some, slice_get, IsTrue, ◌↔◌}
 use Rattle.tup_rule.specs.declared.rule.Rule.{Rule}
+use Rattle.tup_clean.specs.Queue.{count_of}
+use Rattle.tup_core.specs.declared.machine.Core.{Core}
 use Rattle.tup_core.specs.declared.plan.Plan.{Plan}
+use Rattle.tup_core.specs.Reading.{open_test, pass_test}
+use Rattle.tup_core.specs.Waiting.{times}
+use Rattle.tup_schedule.specs.declared.marks.Marks.{Marks}
 use Rattle.tup_schedule.specs.declared.turn.Turn.{Turn}
 use Rattle.tup_schedule.specs.Marks.{IsMarks, is_marked}
 use Rattle.tup_core.specs.Step.{State, IsReady, IsClear, is_reached, changed}
@@ -16,6 +21,14 @@ pub record IsOpen (plan : Plan) (state : State) (at : ℕ) : Type 0 where
 pub record IsFirstReady (plan : Plan) (state : State) (at : ℕ) : Type 0 where
   pub ready : IsReady plan state at
   pub first : (before : ℕ) → before < at → IsReady plan state before → ⊥
+
+-- a rule is none of these, and behind none of them that passes on
+abbrev pub IsBeside : Core → List ℕ → ℕ → Type 0
+IsBeside core places at = (count_of at places ≡ 0) × ((next : ℕ) → 0 < count_of next places → pass_test core next ≡ true → times core.waiting.waiters.items next at ≡ 0)
+
+-- marks were told: a rule has the mark that it should have, or it is beside those that were told and has the mark that it had
+abbrev pub IsTold : Core → List ℕ → Marks → Marks → ℕ → Type 0
+IsTold core places old new at = (is_marked new at ≡ open_test core at) ⊎ (IsBeside core places at × (is_marked new at ≡ is_marked old at))
 
 -- there is a mark at just these rules
 pub record IsTurn (plan : Plan) (state : State) (turn : Turn) : Type 0 where

@@ -1,11 +1,12 @@
 //! Which rule may be claimed first.
-ghost use Rattle.std.specs.Prelude.{◌≡◌, ◌<◌, ◌≤◌, ◌&&◌, ◌==◌, ℕ, false, if◌then◌else◌, IfOk, MatchOption, length, nat_lt};
+ghost use Rattle.std.specs.Prelude.{◌≡◌, ◌<◌, ◌≤◌, ◌&&◌, ◌==◌, ◌∷◌, [], ℕ, false, if◌then◌else◌, IfOk, MatchOption, length, nat_lt};
 ghost use Rattle.tup_clean.specs.Queue.{count_of};
 ghost use Rattle.tup_core.specs.Machine.{state_of, IsCore};
 ghost use Rattle.tup_core.specs.Reading.{open_test};
+ghost use Rattle.tup_core.specs.Waiting.{times};
 ghost use Rattle.tup_schedule.specs.Marks.{IsMarks, is_marked};
 ghost use Rattle.tup_core.specs.Step.{State, IsReady};
-ghost use Rattle.tup_schedule.specs.Turn.{IsFirstReady, IsTurn, HasTurn, Takes, Frees};
+ghost use Rattle.tup_schedule.specs.Turn.{IsFirstReady, IsTurn, IsTold, HasTurn, Takes, Frees};
 
 use crate::marks::Marks;
 use std::alloc::{AllocError, Global};
@@ -55,7 +56,8 @@ impl Turn {
         self.marks.set(rule as usize, false);
     }
 
-    /// A rule of the plan is pending no longer in a core: those that waited for it alone may be claimed.
+    /// A rule of the plan is pending no longer in a core: those that waited for it alone may be claimed. A rule that isn't pending
+    /// itself passes on that it waits for none, so those behind it are looked at only then.
     pub fn free(&mut self, plan: &Plan, core: &Core, rule: u32)
         requires core { IsCore plan.now core.now }
         requires rule { rule < length plan.now.rules }
@@ -65,7 +67,7 @@ impl Turn {
             → IsTurn plan.now (state_of core.now) self.new }
     {
         self.marks.set(rule as usize, false);
-        mark_all(&mut self.marks, core, core.waiters(rule as usize));
+        mark_waiters(&mut self.marks, core, core.waiters(rule as usize));
     }
 }
 
@@ -81,6 +83,41 @@ fn mark_open(marks: &mut Marks, core: &Core, count: usize)
     for at in 0..count {
         marks.set(at, core.is_open(at));
     }
+}
+
+/// Marks those of some rules that are open in a core, and those behind rules that pass on, and takes the marks of the others away.
+fn mark_waiters(marks: &mut Marks, core: &Core, places: &[usize])
+    requires marks { IsMarks marks.old }
+    requires places { (at : ℕ) → 0 < count_of at places.now → at < marks.old.places }
+    requires lists { (at : ℕ) → 0 < count_of at places.now
+        → at < length core.now.waiting.waiters.items }
+    requires behind { (next at : ℕ) → 0 < times core.now.waiting.waiters.items next at
+        → at < marks.old.places }
+    ensures marks { IsMarks marks.new }
+    ensures places { marks.new.places ≡ marks.old.places }
+    ensures told { (at : ℕ) → IsTold core.now places.now marks.old marks.new at }
+{
+    for at in places {
+        mark_one(marks, core, *at);
+    }
+}
+
+/// Marks a rule, if it's open, and, if it passes on, those behind it that are.
+fn mark_one(marks: &mut Marks, core: &Core, place: usize)
+    requires marks { IsMarks marks.old }
+    requires place { place < marks.old.places }
+    requires list { place < length core.now.waiting.waiters.items }
+    requires behind { (next at : ℕ) → 0 < times core.now.waiting.waiters.items next at
+        → at < marks.old.places }
+    ensures marks { IsMarks marks.new }
+    ensures places { marks.new.places ≡ marks.old.places }
+    ensures told { (at : ℕ) → IsTold core.now (place ∷ []) marks.old marks.new at }
+{
+    marks.set(place, core.is_open(place));
+    if !core.passes_on(place) {
+        return;
+    }
+    mark_all(marks, core, core.waiters(place));
 }
 
 /// Marks those of some rules that are open in a core, and takes the marks of the others away.

@@ -6,7 +6,7 @@ ghost use Rattle.tup_access.specs.Access.{access as access_of};
 ghost use Rattle.tup_clean.specs.Queue.{count_of};
 ghost use Rattle.tup_core.specs.Waiting.{times};
 ghost use Rattle.tup_core.specs.Machine.{state_of, IsCore};
-ghost use Rattle.tup_core.specs.Reading.{open_test};
+ghost use Rattle.tup_core.specs.Reading.{open_test, pass_test};
 
 use super::Core;
 use crate::event::Cause;
@@ -26,13 +26,20 @@ impl Core {
         is_up(&self.pending, at) && !is_up(&self.claimed, at) && self.waiting.is_clear(at)
     }
 
-    /// The rules that wait for one that is pending, or waited for it.
+    /// The rules that wait for one that is pending, or waited for it; those behind one that isn't reached stand in its own list.
     pub fn waiters(&self, at: usize) -> &[usize]
         requires { at < length self.now.waiting.waiters.items }
         ensures { (other : ℕ) → count_of other result.now
             ≡ times self.now.waiting.waiters.items at other }
     {
         self.waiting.waiters(at)
+    }
+
+    /// Whether a rule that isn't pending waits for none, so that none behind it waits on its account.
+    pub fn passes_on(&self, at: usize) -> bool
+        ensures { result ≡ pass_test self.now at }
+    {
+        !is_up(&self.pending, at) && self.waiting.is_clear(at)
     }
 
     /// What a seat runs.

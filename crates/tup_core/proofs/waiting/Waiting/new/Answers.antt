@@ -1,19 +1,42 @@
-use Rattle.std.proofs.Common.{List, ℕ, sym, ap, ◌∙◌, subst}
-use Rattle.tup_core.specs.Waiting.{AreWithin, AreAllWaiters, IsShort, total}
-use Rattle.tup_core.proofs.WaitingLaws.{waiters_within, waiters_short, waiting_start}
+use Rattle.std.proofs.Common.{List, ℕ, Bool, length, sym, ap, ◌∙◌, subst}
+use Rattle.tup_core.specs.Waiting.{AreWithin, AreAllWaiters, AreEntries, IsShort, total}
+use Rattle.tup_core.proofs.WaitingLaws.{readers_within, waiters_within, waiters_short, waiting_start}
 use Rattle.tup_core.proofs.waiting.Waiting.new.Goals as goal
+
+pub entries-requires-clause-within : goal.entries-requires-clause-within
+entries-requires-clause-within c = subst AreWithin (sym c.deref.ensures.value) (readers_within c.args.rules.now c.in_ok-listed.listed.items c.in_ok-listed.ensures)
+
+pub entries-requires-clause-reached : goal.entries-requires-clause-reached
+entries-requires-clause-reached c = c.requires ∙ sym (ap length c.deref.ensures.value ∙ c.in_ok-listed.ensures.many)
+
+pub all_waiters-requires-clause-within : goal.all_waiters-requires-clause-within
+all_waiters-requires-clause-within c = subst AreWithin (sym c.deref-2.ensures.value) (readers_within c.args.rules.now c.in_ok-listed.listed.items c.in_ok-listed.ensures)
+
+pub all_waiters-requires-clause-reached : goal.all_waiters-requires-clause-reached
+all_waiters-requires-clause-reached c = c.requires ∙ sym (ap length c.deref-2.ensures.value ∙ c.in_ok-listed.ensures.many)
+
+pub all_waiters-requires-clause-entries : goal.all_waiters-requires-clause-entries
+all_waiters-requires-clause-entries c = ap length c.deref-3.ensures.value ∙ c.in_ok-entries.ensures.many ∙ ap length (c.deref.ensures.value ∙ sym c.deref-2.ensures.value)
+
+-- the lists over the readers and the entries themselves
+all_there : (c : goal.In_ok-waiters) → AreAllWaiters c.in_ok-listed.listed.items c.args.pending.now c.in_ok-entries.entries.items c.in_ok-waiters.waiters.items
+all_there c =
+    subst (λ (l : List (List ℕ)). AreAllWaiters l c.args.pending.now c.in_ok-entries.entries.items c.in_ok-waiters.waiters.items) c.deref-2.ensures.value
+    (subst (λ (l : List Bool). AreAllWaiters c.deref-2.result.now c.args.pending.now l c.in_ok-waiters.waiters.items) c.deref-3.ensures.value c.in_ok-waiters.ensures)
 
 pub counted-requires-clause-within : goal.counted-requires-clause-within
 counted-requires-clause-within c =
-    let all = subst (λ (l : List (List ℕ)). AreAllWaiters l c.args.pending.now c.in_ok-waiters.waiters.items) c.deref.ensures.value c.in_ok-waiters.ensures in
-    subst (λ (l : List (List ℕ)). AreWithin l) (sym c.deref-2.ensures.value) (waiters_within c.args.rules.now c.in_ok-listed.listed.items c.in_ok-waiters.waiters.items c.args.pending.now c.in_ok-listed.ensures all)
+    subst AreWithin (sym c.deref-4.ensures.value)
+    (waiters_within c.args.rules.now c.in_ok-listed.listed.items c.in_ok-waiters.waiters.items c.args.pending.now c.in_ok-entries.entries.items c.in_ok-listed.ensures (all_there c))
 
 pub counted-requires-clause-short : goal.counted-requires-clause-short
 counted-requires-clause-short c =
-    subst (λ (l : List (List ℕ)). IsShort l) (sym c.deref-2.ensures.value) (waiters_short c.deref.result.now c.in_ok-waiters.waiters.items c.args.pending.now c.in_ok-waiters.ensures)
+    subst IsShort (sym c.deref-4.ensures.value) (waiters_short c.in_ok-listed.listed.items c.in_ok-waiters.waiters.items c.args.pending.now c.in_ok-entries.entries.items (all_there c))
 
 pub returns : goal.returns
 returns c =
-    let all = subst (λ (l : List (List ℕ)). AreAllWaiters l c.args.pending.now c.in_ok-waiters.waiters.items) c.deref.ensures.value c.in_ok-waiters.ensures in
-    waiting_start c.args.rules.now c.in_ok-listed.listed.items c.args.pending.now (record { waiters = c.in_ok-waiters.waiters; waits = c.in_ok-waits.waits }) c.requires c.in_ok-listed.ensures all
-    (λ at. c.in_ok-waits.ensures at ∙ ap (λ (l : List (List ℕ)). total l at) c.deref-2.ensures.value)
+    waiting_start c.args.rules.now c.in_ok-listed.listed.items c.args.pending.now c.in_ok-entries.entries.items (record { waiters = c.in_ok-waiters.waiters; waits = c.in_ok-waits.waits; reached = c.in_ok-reached.reached })
+    c.requires c.in_ok-listed.ensures
+    (subst (λ (l : List (List ℕ)). AreEntries l c.args.pending.now c.in_ok-entries.entries.items) c.deref.ensures.value c.in_ok-entries.ensures)
+    (all_there c) c.in_ok-reached.ensures
+    (λ at. c.in_ok-waits.ensures at ∙ ap (λ (l : List (List ℕ)). total l at) c.deref-4.ensures.value)
