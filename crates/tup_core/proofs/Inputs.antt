@@ -1,5 +1,5 @@
 -- What each of some rules declares, one rule after another.
-use Rattle.std.proofs.Common.{◌≡◌, ◌<◌, ◌++◌, ◌∷◌, ◌⊎◌, ℕ, zero, suc, List, [], None, Some, length, refl, sym, ap, subst, ◌∙◌, inl, inr}
+use Rattle.std.proofs.Common.{◌≡◌, ◌++◌, ◌∷◌, ◌⊎◌, ℕ, zero, suc, List, [], None, Some, length, refl, sym, ap, subst, ◌∙◌, inl, inr}
 use Rattle.std.specs.Prelude.{slice_get}
 use Rattle.tup_rule.specs.declared.rule.Rule.{Rule}
 use Rattle.tup_access.specs.Inputs.{AreInputs, AreInputsOfAll}

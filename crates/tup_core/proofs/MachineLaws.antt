@@ -19,7 +19,7 @@ use Rattle.tup_core.specs.Step.{with_stamps, opening, is_reached, IsReady}
 use Rattle.tup_core.specs.Sound.{IsInRange}
 use Rattle.tup_core.specs.Waiting.{flag, number, IsWaiting}
 use Rattle.tup_core.specs.Files.{stamp_in, HasRoomFor}
-use Rattle.tup_core.specs.Machine.{entry, state_of, ready_test, IsCore}
+use Rattle.tup_core.specs.Machine.{entry, state_of, ready_test, IsSettled, IsCore}
 use Rattle.tup_core.proofs.ItemLaws.{items_set, flag_within, flag_none}
 use Rattle.tup_core.proofs.WaitingLaws.{clear_waits, waits_clear}
 
@@ -55,10 +55,11 @@ pub ready_tells : (plan : Plan) (core : Core) (at : ℕ) (result : Bool) → IsC
 ready_tells plan core at result is tests = (λ passes. ready_by_test plan core at is (sym tests ∙ passes), λ ready. tests ∙ test_by_ready plan core at is ready)
 
 -- a ready rule waits for none, and is one of the plan's
-pub ready_settled : (plan : Plan) (core : Core) (at : ℕ) → IsCore plan core → IsReady plan (state_of core) at → (at < length plan.rules) × (number core.waiting.waits.items at ≡ 0)
+pub ready_settled : (plan : Plan) (core : Core) (at : ℕ) → IsCore plan core → IsReady plan (state_of core) at → IsSettled plan core at
 ready_settled plan core at is ready = (
   subst (λ (n : ℕ). at < n) is.pending (flag_within core.pending.items at ready.pending),
   waits_clear plan.rules (is_reached plan) core.pending.items core.waiting at ready.clear.0 is.waiting ready.clear.1 ready.clear.2,
+  is.reached at ready.pending,
 )
 
 -- ---- the opening
@@ -83,7 +84,7 @@ pub record IsOpening (plan : Plan) (files : List (Names × Stamp)) (core : Core)
   pub generated : IsGenerated plan.rules core.generated
   pub inputs : AreInputsOfAll plan.rules core.inputs.items
   pub files_in : (path : Names) → stamp_in core.files path ≡ with_stamps (λ _. None) files path
-  pub room : HasRoomFor plan.rules core.files
+  pub room : HasRoomFor plan.rules (flag core.pending.items) core.files
   pub going : core.stopped ≡ None
 
 pub opened_core : (plan : Plan) (files : List (Names × Stamp)) (core : Core) → IsOpening plan files core → IsCore plan core
@@ -94,7 +95,7 @@ opened_core plan files core made = record {
   seats = ap length made.seats ∙ length_none Running 16;
   generated = made.generated;
   inputs = made.inputs;
-  room = made.room;
+  room = λ at rule path up here writes. made.room at rule path (made.pending at ∙ up) here writes;
   waiting = subst (λ (reached : ℕ → Bool). IsWaiting plan.rules reached core.pending.items core.waiting) (λ i at. made.pending at i) made.waiting;
   reached = λ at up. sym (made.pending at) ∙ up;
   settled = λ at reached down. absurd (true≢false (sym reached ∙ sym (made.pending at) ∙ down));

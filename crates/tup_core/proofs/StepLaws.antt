@@ -11,7 +11,6 @@ use Rattle.tup_path.specs.Name.{Names}
 use Rattle.tup_stamp.specs.declared.Stamp.{Stamp}
 use Rattle.tup_rule.specs.declared.rule.Rule.{Rule}
 use Rattle.tup_rule.specs.Rule.{among, writes}
-use Rattle.tup_rule.proofs.Laws.{is_generated-at}
 use Rattle.tup_access.specs.declared.verdict.Verdict.{Verdict}
 use Rattle.tup_access.specs.declared.verdict.Verdict.TheVariants.{Good, Failed, IllegalRead, IllegalWrite, Unwritten, TooManyReads}
 use Rattle.tup_access.specs.declared.verdict.Access.TheVariants.{Yes, No}
@@ -275,7 +274,7 @@ deny_yes plan core seat running rule path verdict text asking granted can = yes_
 -- what a Good end writes, there is room for
 pub has_rooms : (plan : Plan) (old : Core) (seat : ℕ) (writes : List (Names × Stamp)) (at : ℕ) → IsCore plan old → MayEnd plan old seat Good writes at → (path : Names) → among path (map (λ (file : Names × Stamp). file.0) writes) ≡ true → has_room old.files path ≡ true
 has_rooms plan old seat written at is ends path found =
-    is.room path (is_generated-at plan.rules path ends.running.rule ends.rule ends.runs.placed (by ends.running.denied ends.fits))
+    is.room ends.running.rule ends.rule path (is.running seat ends.running ends.runs.here).2 ends.runs.placed (by ends.running.denied ends.fits)
   where
     by : (denied : Option (List ℕ × Verdict)) → FitsEnd ends.rule denied Good written → writes ends.rule path ≡ true
     by None outputs = ap (among path) (sym outputs) ∙ found
@@ -321,7 +320,7 @@ module _ (plan : Plan) (old : Core) (seat at : ℕ) (written : List (Names × St
     seats = ap length seats ∙ length-set old.seats.items seat None ∙ is.seats;
     generated = is.generated;
     inputs = is.inputs;
-    room = λ path made. room path ∙ is.room path made;
+    room = λ other rule path reached here written. room path ∙ is.room other rule path reached here written;
     waiting = waiting;
     reached = λ other up. elim (cases_eq other at) [
       | inl same ↦ absurd (true≢false (sym up ∙ here_flag other same))
@@ -334,7 +333,7 @@ module _ (plan : Plan) (old : Core) (seat at : ℕ) (written : List (Names × St
     running = λ other running now.
         let was = running_set (IsSettled plan old) old.seats.items seat None (sits plan old seat is ends.runs.within) is.running (λ one none. absurd (none-some one none)) other running
         (sym (ap (λ (items : List (Option Running)). entry items other) seats) ∙ now) in
-        (was.0, still_none running.rule was.1);
+        (was.0, still_none running.rule was.1, was.2);
   }
 
   pub good_taken : Takes plan old (Finish seat Good written) (record old { seats = from.seats; pending = from.pending; waiting = from.waiting; files = from.files })

@@ -448,8 +448,8 @@ left_more places i place at less is =
 
 -- a rule that wasn't reached and is counted once counts
 last_counts : (reached pending : List Bool) (waits : List ℕ) (place : ℕ) → is_last reached waits place ≡ true → counts (flag reached) pending waits place ≡ true
-last_counts reached pending waits place yes =
-    let both = and_parts (not (flag reached place)) (number waits place == 1) yes in
+last_counts reached pending waits place alone =
+    let both = and_parts (not (flag reached place)) (number waits place == 1) alone in
     let one = eqb-true (number waits place) 1 both.1 in
     counts_beside (flag reached) pending waits place (not-true (flag reached place) both.0) ∙ lt-ltb 0 (number waits place) (omega (arith, one))
 
@@ -460,12 +460,12 @@ module _ (lists : List (List ℕ)) (reached pending : List Bool) (places : List 
       let counted = held at in
       let left = left_more places i place at less here in
       elim (cases_Bool (is_last reached waits place)) [
-        | inr no ↦
-            let none : ◌≡◌ {A = ℕ} (if is_last reached waits place then times lists place at else 0) 0 = ap (λ (b : Bool). if b then times lists place at else 0) no in
+        | inr several ↦
+            let none : ◌≡◌ {A = ℕ} (if is_last reached waits place then times lists place at else 0) 0 = ap (λ (b : Bool). if b then times lists place at else 0) several in
             omega (arith, counted, left, none)
-        | inl yes ↦
-            let all : ◌≡◌ {A = ℕ} (if is_last reached waits place then times lists place at else 0) (times lists place at) = ap (λ (b : Bool). if b then times lists place at else 0) yes in
-            let le = waits_le lists (counts (flag reached) pending waits) place at (last_counts reached pending waits place yes) in
+        | inl alone ↦
+            let all : ◌≡◌ {A = ℕ} (if is_last reached waits place then times lists place at else 0) (times lists place at) = ap (λ (b : Bool). if b then times lists place at else 0) alone in
+            let le = waits_le lists (counts (flag reached) pending waits) place at (last_counts reached pending waits place alone) in
             omega (arith, counted, left, all, le)
       ]
 
@@ -473,16 +473,16 @@ module _ (lists : List (List ℕ)) (reached pending : List Bool) (places : List 
   pub counts_step : (old new : List ℕ) → AreInner lists reached → AreCounts lists reached pending (drop i places) old → ((at : ℕ) → number new at + taken lists reached old place at ≡ number old at) →
       AreCounts lists reached pending (drop (i + 1) places) new
   counts_step old new inner held done = elim (cases_Bool (is_last reached old place)) [
-    | inr no ↦ λ at.
-        let none : ◌≡◌ {A = ℕ} (if is_last reached old place then times lists place at else 0) 0 = ap (λ (b : Bool). if b then times lists place at else 0) no in
-        let same : waits_in lists (counts (flag reached) pending old) at ≡ waits_in lists (counts (flag reached) pending new) at = λ k. waits_in lists (λ n. stays no n k) at in
+    | inr several ↦ λ at.
+        let none : ◌≡◌ {A = ℕ} (if is_last reached old place then times lists place at else 0) 0 = ap (λ (b : Bool). if b then times lists place at else 0) several in
+        let same : waits_in lists (counts (flag reached) pending old) at ≡ waits_in lists (counts (flag reached) pending new) at = λ k. waits_in lists (λ n. stays several n k) at in
         let counted = held at in
         let left = left_more places i place at less here in
         let one = done at in
         omega (arith, none, same, counted, left, one)
-    | inl yes ↦ λ at.
-        let all : ◌≡◌ {A = ℕ} (if is_last reached old place then times lists place at else 0) (times lists place at) = ap (λ (b : Bool). if b then times lists place at else 0) yes in
-        let fewer = waits_one lists (counts (flag reached) pending old) (counts (flag reached) pending new) place at (last_counts reached pending old place yes) (gone yes) (others yes) in
+    | inl alone ↦ λ at.
+        let all : ◌≡◌ {A = ℕ} (if is_last reached old place then times lists place at else 0) (times lists place at) = ap (λ (b : Bool). if b then times lists place at else 0) alone in
+        let fewer = waits_one lists (counts (flag reached) pending old) (counts (flag reached) pending new) place at (last_counts reached pending old place alone) (gone alone) (others alone) in
         let counted = held at in
         let left = left_more places i place at less here in
         let one = done at in
@@ -490,7 +490,7 @@ module _ (lists : List (List ℕ)) (reached pending : List Bool) (places : List 
   ]
     where
       outside_last : is_last reached old place ≡ true → flag reached place ≡ false
-      outside_last yes = not-true (flag reached place) (and_parts (not (flag reached place)) (number old place == 1) yes).0
+      outside_last alone = not-true (flag reached place) (and_parts (not (flag reached place)) (number old place == 1) alone).0
 
       above_one : (n : ℕ) → 0 < n → (n ≡ 1 → ⊥) → 1 < n
       above_one zero some apart = absurd (omega arith)
@@ -515,21 +515,21 @@ module _ (lists : List (List ℕ)) (reached pending : List Bool) (places : List 
       both_some a b some more = lt-ltb 0 a some ∙ sym (lt-ltb 0 b more)
 
       none_there : (n : ℕ) → flag reached n ≡ false → is_last reached old place ≡ true → ◌≡◌ {A = ℕ} (if is_last reached old place then times lists place n else 0) 0
-      none_there n outside yes = ap (λ (b : Bool). if b then times lists place n else 0) yes ∙ elim (cases_lt 0 (times lists place n)) [
+      none_there n outside alone = ap (λ (b : Bool). if b then times lists place n else 0) alone ∙ elim (cases_lt 0 (times lists place n)) [
         | inr none ↦ omega (arith, none)
-        | inl some ↦ absurd (true≢false (sym (inner place n (outside_last yes) some) ∙ outside))
+        | inl some ↦ absurd (true≢false (sym (inner place n (outside_last alone) some) ∙ outside))
       ]
 
       stays : is_last reached old place ≡ false → (n : ℕ) → counts (flag reached) pending old n ≡ counts (flag reached) pending new n
-      stays no n = elim (cases_Bool (flag reached n)) [
+      stays several n = elim (cases_Bool (flag reached n)) [
         | inl inside ↦ counts_up (flag reached) pending old n inside ∙ sym (counts_up (flag reached) pending new n inside)
         | inr outside ↦ counts_beside (flag reached) pending old n outside ∙ (elim (cases_eq n place) [
-          | inr apart ↦ ap (λ (x : ℕ). nat_lt 0 x) (sym (number_other n apart (ap (λ (b : Bool). if b then times lists place n else 0) no)))
+          | inr apart ↦ ap (λ (x : ℕ). nat_lt 0 x) (sym (number_other n apart (ap (λ (b : Bool). if b then times lists place n else 0) several)))
           | inl same ↦
               let outside_place : flag reached place ≡ false = ap (flag reached) (sym same) ∙ outside in
-              let not_one = eqb-false (number old place) 1 (sym (ap (λ (b : Bool). not b && number old place == 1) outside_place) ∙ no) in
+              let not_one = eqb-false (number old place) 1 (sym (ap (λ (b : Bool). not b && number old place == 1) outside_place) ∙ several) in
               let more : 1 < number old place = above_one (number old place) some_left not_one in
-              let none : ◌≡◌ {A = ℕ} (if is_last reached old place then times lists place place else 0) 0 = ap (λ (b : Bool). if b then times lists place place else 0) no in
+              let none : ◌≡◌ {A = ℕ} (if is_last reached old place then times lists place place else 0) 0 = ap (λ (b : Bool). if b then times lists place place else 0) several in
               let one = done place in
               let here_one = one_if-same place place refl in
               let still : 0 < number new place = omega (arith, more, none, one, here_one) in
@@ -538,21 +538,29 @@ module _ (lists : List (List ℕ)) (reached pending : List Bool) (places : List 
       ]
 
       gone : is_last reached old place ≡ true → counts (flag reached) pending new place ≡ false
-      gone yes =
-          let one = eqb-true (number old place) 1 (and_parts (not (flag reached place)) (number old place == 1) yes).1 in
+      gone alone =
+          let one = eqb-true (number old place) 1 (and_parts (not (flag reached place)) (number old place == 1) alone).1 in
           let taken_here = done place in
           let here_one = one_if-same place place refl in
           let none : number new place ≤ 0 = omega (arith, one, taken_here, here_one) in
-          counts_beside (flag reached) pending new place (outside_last yes) ∙ le-ltb 0 (number new place) none
+          counts_beside (flag reached) pending new place (outside_last alone) ∙ le-ltb 0 (number new place) none
 
       others : is_last reached old place ≡ true → (n : ℕ) → (n ≡ place → ⊥) → counts (flag reached) pending new n ≡ counts (flag reached) pending old n
-      others yes n apart = elim (cases_Bool (flag reached n)) [
+      others alone n apart = elim (cases_Bool (flag reached n)) [
         | inl inside ↦ counts_up (flag reached) pending new n inside ∙ sym (counts_up (flag reached) pending old n inside)
         | inr outside ↦
             counts_beside (flag reached) pending new n outside
-            ∙ ap (λ (x : ℕ). nat_lt 0 x) (number_other n apart (none_there n outside yes))
+            ∙ ap (λ (x : ℕ). nat_lt 0 x) (number_other n apart (none_there n outside alone))
             ∙ sym (counts_beside (flag reached) pending old n outside)
       ]
+
+-- the same, of lists, flags and numbers that are equal
+pub counts_as : (lists new_lists : List (List ℕ)) (reached new_reached pending : List Bool) (left new_left waits new_waits : List ℕ) → new_lists ≡ lists → new_reached ≡ reached → new_left ≡ left → new_waits ≡ waits →
+    AreCounts lists reached pending left waits → AreCounts new_lists new_reached pending new_left new_waits
+counts_as lists new_lists reached new_reached pending left new_left waits new_waits same_lists same_reached same_left same_waits held =
+    subst (λ (l : List (List ℕ)). AreCounts l new_reached pending new_left new_waits) (sym same_lists)
+    (subst (λ (r : List Bool). AreCounts lists r pending new_left new_waits) (sym same_reached)
+    (subst (λ (l : List ℕ). AreCounts lists reached pending l new_waits) (sym same_left) (subst (AreCounts lists reached pending left) (sym same_waits) held)))
 
 -- none is left at the end
 pub counts_all : (lists : List (List ℕ)) (reached pending : List Bool) (places waits : List ℕ) (i : ℕ) → length places ≤ i → AreCounts lists reached pending (drop i places) waits → AreCounts lists reached pending [] waits

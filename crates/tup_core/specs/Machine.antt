@@ -38,12 +38,12 @@ state_of core = record {
 abbrev pub ready_test : Core → ℕ → Bool
 ready_test core at = is_none core.stopped && flag core.pending.items at && not (flag core.claimed.items at) && number core.waiting.waits.items at == 0
 
--- a rule of the plan that waits for none
+-- a rule of the plan's reach that waits for none
 abbrev pub IsSettled : Plan → Core → ℕ → Type 0
-IsSettled plan core at = (at < length plan.rules) × (number core.waiting.waits.items at ≡ 0)
+IsSettled plan core at = (at < length plan.rules) × (number core.waiting.waits.items at ≡ 0) × (is_reached plan at ≡ true)
 
--- what a core keeps for its plan: a place for each rule, 16 seats, the set of outputs with room for their stamps, what
--- rules declare, and what they wait for; what runs, and what was reached and is pending no longer, waits for none
+-- what a core keeps for its plan: a place for each rule, 16 seats, the set of outputs, room for the stamps of those that the reach makes,
+-- what rules declare, and what they wait for; what runs, and what was reached and is pending no longer, waits for none
 pub record IsCore (plan : Plan) (core : Core) : Type 0 where
   pub pending : length core.pending.items ≡ length plan.rules
   pub claimed : length core.claimed.items ≡ length plan.rules
@@ -51,7 +51,7 @@ pub record IsCore (plan : Plan) (core : Core) : Type 0 where
   pub seats : length core.seats.items ≡ 16
   pub generated : IsGenerated plan.rules core.generated
   pub inputs : AreInputsOfAll plan.rules core.inputs.items
-  pub room : HasRoomFor plan.rules core.files
+  pub room : HasRoomFor plan.rules (is_reached plan) core.files
   pub waiting : IsWaiting plan.rules (is_reached plan) core.pending.items core.waiting
   pub reached : (at : ℕ) → flag core.pending.items at ≡ true → is_reached plan at ≡ true
   pub settled : (at : ℕ) → is_reached plan at ≡ true → flag core.pending.items at ≡ false → number core.waiting.waits.items at ≡ 0

@@ -66,10 +66,10 @@ impl Core {
             generated: generated(alloc, rules)?,
             inputs: inputs_of_all(alloc, rules, &pending)?,
             waiting: Waiting::new(alloc, rules, &pending)?,
+            files: FileStamps::new(alloc, files, rules, &pending)?,
             pending,
             claimed: lowered(alloc, rules.len())?,
             seats: nothing(alloc, SEATS)?,
-            files: FileStamps::new(alloc, files, rules)?,
             bad: nothing(alloc, rules.len())?,
             stopped: None,
         })

@@ -1,4 +1,4 @@
-use Rattle.std.proofs.Common.{◌≡◌, ◌+◌, ◌∷◌, [], ℕ, Some, length, ap, sym, subst, ◌∙◌, length-append}
+use Rattle.std.proofs.Common.{◌+◌, ◌∷◌, [], ℕ, Some, length, ap, sym, subst, ◌∙◌, length-append}
 use Rattle.std.proofs.lemmas.Option.{slice_get-get_or}
 use Rattle.tup_access.specs.Inputs.{AreInputsOfAll}
 use Rattle.tup_core.proofs.Inputs.{inputs_more, no_inputs}

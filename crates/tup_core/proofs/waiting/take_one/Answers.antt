@@ -16,7 +16,7 @@ pub take_each-requires : goal.take_each-requires
 take_each-requires c = λ at.
     let is = list_at c.args.lists.now c.args.place c.index-lists-place.result c.as_slice.result.now c.requires.place c.as_slice.ensures c.index-lists-place.is in
     let all : ◌≡◌ {A = ℕ} (if is_last c.args.reached.now c.args.waits.now c.args.place then times c.args.lists.now c.args.place at else 0) (times c.args.lists.now c.args.place at) =
-    ap (λ (b : Bool). if b then times c.args.lists.now c.args.place at else 0) (sym c.is_last.ensures ∙ c.if-last.true) in
+    ap (λ (b : Bool). if b then times c.args.lists.now c.args.place at else 0) (sym c.is_last-last.ensures ∙ c.if-last.true) in
     let enough = c.requires.taken at in
     let lowered = c.lower_one.ensures at in
     let same : count_of at c.as_slice.result.now ≡ times c.args.lists.now c.args.place at = ap (count_of at) is in
@@ -26,7 +26,7 @@ pub returns-then-last : goal.returns-then-last
 returns-then-last c = λ at.
     let is = list_at c.args.lists.now c.args.place c.index-lists-place.result c.as_slice.result.now c.requires.place c.as_slice.ensures c.index-lists-place.is in
     let all : ◌≡◌ {A = ℕ} (if is_last c.args.reached.now c.args.waits.now c.args.place then times c.args.lists.now c.args.place at else 0) (times c.args.lists.now c.args.place at) =
-    ap (λ (b : Bool). if b then times c.args.lists.now c.args.place at else 0) (sym c.is_last.ensures ∙ c.if-last.true) in
+    ap (λ (b : Bool). if b then times c.args.lists.now c.args.place at else 0) (sym c.is_last-last.ensures ∙ c.if-last.true) in
     let lowered = c.lower_one.ensures at in
     let taken_away = c.take_each.ensures at in
     let same : count_of at c.as_slice.result.now ≡ times c.args.lists.now c.args.place at = ap (count_of at) is in
@@ -35,6 +35,6 @@ returns-then-last c = λ at.
 pub returns-else-last : goal.returns-else-last
 returns-else-last c = λ at.
     let none : ◌≡◌ {A = ℕ} (if is_last c.args.reached.now c.args.waits.now c.args.place then times c.args.lists.now c.args.place at else 0) 0 =
-    ap (λ (b : Bool). if b then times c.args.lists.now c.args.place at else 0) (sym c.is_last.ensures ∙ c.if-last.false) in
+    ap (λ (b : Bool). if b then times c.args.lists.now c.args.place at else 0) (sym c.is_last-last.ensures ∙ c.if-last.false) in
     let lowered = c.lower_one.ensures at in
     omega (arith, none, lowered)

@@ -11,13 +11,9 @@ set-requires-clause-marks c = c.requires.marks
 pub set-requires-clause-place : goal.set-requires-clause-place
 set-requires-clause-place c = c.requires.place
 
--- what the mark of the rule itself is now
-set_here : (c : goal.Set) (at : ℕ) → is_marked c.set.new.self at ≡ (if at == c.args.place then open_test c.args.core.now c.args.place else is_marked c.args.marks.now at)
-set_here c at = c.set.ensures.set at ∙ ap (λ (b : Bool). if at == c.args.place then b else is_marked c.args.marks.now at) c.is_open.ensures
-
 pub returns-then-not-passes_on-clause-told : goal.returns-then-not-passes_on-clause-told
 returns-then-not-passes_on-clause-told c =
-    told_alone c.args.core.now c.args.marks.now c.set.new.self c.args.place (set_here c) (sym c.passes_on.ensures ∙ c.if-not-passes_on.true)
+    told_alone c.args.core.now c.args.marks.now c.set.new.self c.args.place (λ at. c.set.ensures.set at ∙ ap (λ (b : Bool). if at == c.args.place then b else is_marked c.args.marks.now at) c.is_open.ensures) (sym c.passes_on.ensures ∙ c.if-not-passes_on.true)
 
 pub waiters-requires : goal.waiters-requires
 waiters-requires c = c.requires.list
@@ -30,4 +26,4 @@ mark_all-requires-clause-places c = λ at some.
 
 pub returns-clause-told : goal.returns-clause-told
 returns-clause-told c =
-    told_with c.args.core.now c.args.marks.now c.set.new.self c.mark_all.new.marks c.args.place c.waiters.result.now (set_here c) c.waiters.ensures c.mark_all.ensures.set
+    told_with c.args.core.now c.args.marks.now c.set.new.self c.mark_all.new.marks c.args.place c.waiters.result.now (λ at. c.set.ensures.set at ∙ ap (λ (b : Bool). if at == c.args.place then b else is_marked c.args.marks.now at) c.is_open.ensures) c.waiters.ensures c.mark_all.ensures.set

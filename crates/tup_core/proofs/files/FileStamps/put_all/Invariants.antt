@@ -1,11 +1,8 @@
-use Rattle.std.proofs.Common.{◌≡◌, true}
+use Rattle.std.proofs.Common.{◌≡◌}
 use Rattle.tup_path.specs.Name.{Names}
 use Rattle.tup_core.specs.Step.{with_stamps}
-use Rattle.tup_core.specs.Files.{stamp_in, has_room}
+use Rattle.tup_core.specs.Files.{stamp_in}
 use Rattle.tup_core.proofs.files.FileStamps.put_all.Given as goal
 
 abbrev pub invariant-loop-path : goal.invariant-loop-path
-invariant-loop-path l = record {
-  stamps : (path : Names) → stamp_in l.self path ≡ with_stamps (stamp_in l.fn.self) l.yielded path;
-  room : (path : Names) → has_room l.fn.self path ≡ true → has_room l.self path ≡ true;
-}
+invariant-loop-path l = (path : Names) → stamp_in l.self path ≡ with_stamps (stamp_in l.fn.self) l.yielded path

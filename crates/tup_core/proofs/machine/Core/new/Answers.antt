@@ -31,7 +31,9 @@ made c = record {
   generated = subst (λ (r : List Rule). IsGenerated r c.in_ok-generated.field-0) c.as_slice-rules.ensures c.in_ok-generated.ensures;
   inputs = subst (λ (r : List Rule). AreInputsOfAll r c.in_ok-inputs_of_all.field-0.items) c.as_slice-rules.ensures c.in_ok-inputs_of_all.ensures;
   files_in = c.in_ok-new-2.ensures.stamps;
-  room = subst (λ (r : List Rule). HasRoomFor r c.in_ok-new-2.field-0) c.as_slice-rules.ensures c.in_ok-new-2.ensures.room;
+  room =
+      subst (λ (r : List Rule). HasRoomFor r (flag c.in_ok-pending.pending.items) c.in_ok-new-2.field-0) c.as_slice-rules.ensures
+      (subst (λ (l : List Bool). HasRoomFor c.as_slice-rules.result.now (flag l) c.in_ok-new-2.field-0) c.deref-3.ensures.value c.in_ok-new-2.ensures.room);
   going = refl;
 }
 

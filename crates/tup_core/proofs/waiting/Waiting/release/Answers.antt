@@ -1,28 +1,48 @@
-use Rattle.std.proofs.Common.{◌≡◌, ◌<◌, List, [], ℕ, refl, sym, subst}
+use Rattle.std.proofs.Common.{◌≡◌, ◌<◌, ◌≤◌, List, [], ℕ, length, refl, sym, subst, arith}
 use Rattle.std.specs.Prelude.{slice_get, unwrap_or}
+use Rattle.std.specs.Vec.{with_items}
+use Rattle.std.proofs.lemmas.List.{with_items_is}
 use Rattle.tup_clean.specs.Queue.{count_of}
-use Rattle.tup_core.specs.Waiting.{AreCounts}
+use Rattle.tup_core.specs.Waiting.{number, AreInner}
 use Rattle.tup_core.proofs.WalkLaws.{list_at}
+use Rattle.tup_core.proofs.WaitingLaws.{counts_as}
 use Rattle.tup_core.proofs.waiting.Waiting.release.Goals as goal
 
--- the list that is taken away
-list_here : (c : goal.As_slice) → c.as_slice.result.now ≡ unwrap_or (slice_get c.args.self.now.waiters.items c.args.at) []
-list_here c = list_at c.args.self.now.waiters.items c.args.at c.index.result.now c.as_slice.result.now c.requires.here c.as_slice.ensures c.index.ensures
-
 pub take_all-requires-clause-within : goal.take_all-requires-clause-within
-take_all-requires-clause-within c = λ k some. c.requires.within c.args.at k (subst (λ (l : List ℕ). 0 < count_of k l) (list_here c) some)
+take_all-requires-clause-within c = λ k some.
+    let old = c.args.self.now in
+    let here = list_at old.waiters.items c.args.at c.index.result.now c.as_slice.result.now c.requires.here c.as_slice.ensures c.index.ensures in
+    subst (λ (l : List (List ℕ)). k < length l) (sym c.deref.ensures.value) (c.requires.within c.args.at k (subst (λ (l : List ℕ). 0 < count_of k l) here some))
 
 pub take_all-requires-clause-inner : goal.take_all-requires-clause-inner
-take_all-requires-clause-inner c = c.requires.inner
+take_all-requires-clause-inner c =
+    subst (λ (l : List (List ℕ)). AreInner l c.deref-2.result.now) (sym c.deref.ensures.value) (subst (AreInner c.args.self.now.waiters.items) (sym c.deref-2.ensures.value) c.requires.inner)
 
 pub take_all-requires-clause-held : goal.take_all-requires-clause-held
-take_all-requires-clause-held c = (c.requires.held.0, subst (λ (l : List ℕ). AreCounts c.args.self.now.waiters.items c.args.self.now.reached.items c.requires.held.0 l c.args.self.now.waits.items) (sym (list_here c)) c.requires.held.1)
+take_all-requires-clause-held c =
+    let old = c.args.self.now in
+    let here = list_at old.waiters.items c.args.at c.index.result.now c.as_slice.result.now c.requires.here c.as_slice.ensures c.index.ensures in (
+      c.requires.held.0,
+      counts_as old.waiters.items c.deref.result.now old.reached.items c.deref-2.result.now c.requires.held.0 (unwrap_or (slice_get old.waiters.items c.args.at) []) c.as_slice.result.now old.waits.items c.deref_mut.result.now
+          c.deref.ensures.value c.deref-2.ensures.value here c.deref_mut.ensures.value c.requires.held.1,
+    )
 
 pub returns : goal.returns
-returns c = record {
-  lists = refl;
-  reached = refl;
-  fewer = c.take_all.ensures.fewer;
-  counted = λ pending held. c.take_all.ensures.counted pending
-      (subst (λ (l : List ℕ). AreCounts c.args.self.now.waiters.items c.args.self.now.reached.items pending l c.args.self.now.waits.items) (sym (list_here c)) held);
-}
+returns c =
+    let old = c.args.self.now in
+    let new = c.take_all.new.waits in
+    let here = list_at old.waiters.items c.args.at c.index.result.now c.as_slice.result.now c.requires.here c.as_slice.ensures c.index.ensures in
+    let long : length new ≡ old.waits.len = omega arith in
+    let is : (with_items old.waits new).items ≡ new = with_items_is old.waits new long in
+    record {
+      lists = refl;
+      reached = refl;
+      fewer = λ other.
+          subst (λ (l : List ℕ). number l other ≤ number old.waits.items other) (sym is)
+          (subst (λ (l : List ℕ). number new other ≤ number l other) c.deref_mut.ensures.value (c.take_all.ensures.fewer other));
+      counted = λ pending held.
+          counts_as c.deref.result.now old.waiters.items c.deref-2.result.now old.reached.items pending [] [] new (with_items old.waits new).items (sym c.deref.ensures.value) (sym c.deref-2.ensures.value) refl is
+          (c.take_all.ensures.counted pending
+          (counts_as old.waiters.items c.deref.result.now old.reached.items c.deref-2.result.now pending (unwrap_or (slice_get old.waiters.items c.args.at) []) c.as_slice.result.now old.waits.items c.deref_mut.result.now c.deref.ensures.value
+          c.deref-2.ensures.value here c.deref_mut.ensures.value held));
+    }

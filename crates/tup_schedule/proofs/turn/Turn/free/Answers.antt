@@ -11,18 +11,14 @@ set-requires-clause-place c = let enough = c.requires.before.1.places in let wit
 pub waiters-requires : goal.waiters-requires
 waiters-requires c = waiters_here c.args.plan.now c.args.core.now c.args.rule c.requires.core c.requires.rule
 
--- there is a mark for each rule of the plan
-enough : (c : goal.Waiters) → length c.args.plan.now.rules ≤ c.set.new.self.places
-enough c = let places = c.requires.before.1.places in let same = c.set.ensures.places in omega (arith, places, same)
-
 pub mark_waiters-requires-clause-places : goal.mark_waiters-requires-clause-places
-mark_waiters-requires-clause-places c = waiters_marked c.args.plan.now c.args.core.now c.args.rule c.waiters.result.now c.set.new.self c.requires.core c.waiters.ensures (enough c)
+mark_waiters-requires-clause-places c = waiters_marked c.args.plan.now c.args.core.now c.args.rule c.waiters.result.now c.set.new.self c.requires.core c.waiters.ensures (let places = c.requires.before.1.places in let same = c.set.ensures.places in omega (arith, places, same))
 
 pub mark_waiters-requires-clause-lists : goal.mark_waiters-requires-clause-lists
 mark_waiters-requires-clause-lists c = waiters_listed c.args.plan.now c.args.core.now c.args.rule c.waiters.result.now c.requires.core c.waiters.ensures
 
 pub mark_waiters-requires-clause-behind : goal.mark_waiters-requires-clause-behind
-mark_waiters-requires-clause-behind c = behind_marked c.args.plan.now c.args.core.now c.set.new.self c.requires.core (enough c)
+mark_waiters-requires-clause-behind c = behind_marked c.args.plan.now c.args.core.now c.set.new.self c.requires.core (let places = c.requires.before.1.places in let same = c.set.ensures.places in omega (arith, places, same))
 
 pub returns : goal.returns
 returns c = λ before is frees.
