@@ -10,7 +10,7 @@ use Rattle.std.proofs.lemmas.Bool.{false≢true}
 use Rattle.std.proofs.lemmas.List.{get_or-take, length-take}
 use Rattle.std.proofs.lemmas.List.Elements.{Contains-push}
 use Rattle.std.proofs.lemmas.List.Folds.{list_any-append}
-use Rattle.std.proofs.lemmas.Map.Keys.{IsDistinct-push, apart_from_distinct}
+use Rattle.std.proofs.lemmas.Map.Keys.{IsDistinct-from_apart, IsDistinct-push, apart_from_distinct}
 use Rattle.std.specs.Borrow.{Bor}
 use Rattle.tup_path.specs.Name.{Names}
 use Rattle.tup_path.specs.Order.{by_names, same_path}
@@ -65,6 +65,10 @@ old_one set paths path added has told is = sym (has path) ∙ turned (contains b
 pub none_twice : IsDistinct same_path []
 unfolding IsDistinct
 none_twice = tt
+
+-- of fewer than two none stands twice
+pub few_once : (paths : List Names) → length paths < 2 → IsDistinct same_path paths
+few_once paths few = IsDistinct-from_apart same_path paths (λ i j d less within. absurd (omega (arith, few, less, within)))
 
 -- one more that isn't among them
 pub once_more : (paths : List Names) (path : Names) → IsDistinct same_path paths → among path paths ≡ false → IsDistinct same_path (paths ++ path ∷ [])

@@ -23,6 +23,9 @@ pub(crate) fn name_once(alloc: Global, rules: &[Rule]) -> Result<bool, AllocErro
 fn are_distinct(alloc: Global, paths: &[Path]) -> Result<bool, AllocError>
     ensures { IfOk result (λ distinct. IsTrue distinct ↔ IsDistinct same_path paths.now) }
 {
+    if paths.len() < 2 {
+        return Ok(true);
+    }
     let mut before = BTreeSet::new(alloc);
     for path in paths {
         if !before.insert(path)? {

@@ -229,7 +229,7 @@ fn opened(alloc: Global, nodes: &Nodes, plan: &Plan) -> Result<Course, AllocErro
 fn seen_files(alloc: Global, nodes: &Nodes) -> Result<Stamps, AllocError>
     ensures { IfOk result (λ files. files ≡ finite.entries nodes.now.seen) }
 {
-    let mut files = Items::new(alloc);
+    let mut files = Items::with_room(alloc, nodes.files().len())?;
     for (path, stamp) in nodes.files() {
         files.push((path.clone()?, *stamp))?;
     }

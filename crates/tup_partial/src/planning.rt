@@ -92,7 +92,7 @@ fn flagged(alloc: Global, graph: &Nodes) -> Result<Numbers, PartialFault>
 fn copies(alloc: Global, rules: &[Rule]) -> Result<Rules, AllocError>
     ensures { IfOk result (λ copies. copies ≡ rules.now) }
 {
-    let mut copies = Rules::new(alloc);
+    let mut copies = Rules::with_room(alloc, rules.len())?;
     for rule in rules {
         copies.push(rule.clone()?)?;
     }

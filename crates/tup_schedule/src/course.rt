@@ -15,6 +15,7 @@ use crate::taking::{opened, take, try_take};
 use crate::turn::Turn;
 use std::alloc::{AllocError, Global};
 use std::marker::Model;
+use std::mem;
 use std::snapshot::Snapshot;
 use tup_access::{Access, Verdict};
 use tup_core::{Cause, Core, CoreEvent, Plan, Running, Stamps};
@@ -89,11 +90,13 @@ impl Course {
         &self.history
     }
 
-    /// The same, to keep.
+    /// The same, to keep. The core is given up: the program ends with its update, and that the core's memory is freed
+    /// piece by piece then helps nobody.
     pub fn into_history(self) -> Events
         ensures events { result ≡ self.history }
         ensures run { IsRun self.plan (first self) result }
     {
+        mem::forget(self.core);
         Items::from_vec(self.history)
     }
 

@@ -90,7 +90,8 @@ pub(crate) fn run_flagged<W: Threads + Wait + Sync, S: Site + Send, R: Runner + 
     prepared_is_finished(&site);
     prepared_is_settled(&site);
     if none_flagged(graph.nodes()) {
-        // The program ends with its update: that the graph's memory is freed node by node helps nobody.
+        // The program ends with its update: that the graph's memory is freed node by node helps nobody. So are graph and plan given
+        // up below.
         mem::forget(graph);
         return Updated {
             site,
@@ -103,7 +104,9 @@ pub(crate) fn run_flagged<W: Threads + Wait + Sync, S: Site + Send, R: Runner + 
     match plan_over(alloc, &graph, asked.keep_going) {
         Ok(Some(plan)) => {
             started.plan(plan.reach.len() as u64);
-            run_plan(rt, alloc, site, graph, &plan, crew, asked.explain, log)
+            let updated = run_plan(rt, alloc, site, graph, &plan, crew, asked.explain, log);
+            mem::forget(plan);
+            updated
         }
         _ => without_memory(alloc, site, crew, log),
     }
@@ -283,6 +286,7 @@ fn told<S: Site, R: Runner>(
     log.steps = known.steps.in_history(history);
     let because = ended_chains(alloc, known.chains, history);
     let stopped = stopped_by(alloc, plan, history, drained, &mut log.ended);
+    mem::forget(parts.graph); // the program ends with its update
     Updated {
         site: parts.site,
         crew,

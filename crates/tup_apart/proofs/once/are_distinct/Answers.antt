@@ -1,11 +1,11 @@
-use Rattle.std.proofs.Common.{◌≡◌, ◌+◌, ◌∷◌, [], ◌++◌, false, true, take, sym, ap, ◌∙◌, subst}
+use Rattle.std.proofs.Common.{◌≡◌, ◌+◌, ◌∷◌, [], ◌++◌, false, true, take, refl, sym, ap, ◌∙◌, subst}
 use Rattle.std.specs.Borrow.{Bor}
 use Rattle.std.specs.List.{IsDistinct}
 use Rattle.std.proofs.lemmas.Bool.{false≢true}
 use Rattle.std.proofs.lemmas.List.{take_more}
 use Rattle.tup_path.specs.Name.{Names}
 use Rattle.tup_path.specs.Order.{same_path}
-use Rattle.tup_apart.proofs.Distinct.{HasPaths, has_more, has_none, new_one, none_twice, old_one, once_more, twice}
+use Rattle.tup_apart.proofs.Distinct.{HasPaths, few_once, has_more, has_none, new_one, none_twice, old_one, once_more, twice}
 use Rattle.tup_apart.proofs.once.are_distinct.Goals as goal
 
 pub loop-path-init : goal.loop-path-init
@@ -31,3 +31,6 @@ returns-then-not-branch c =
       λ once. absurd (twice c.args.paths.now c.loop-path.path-index c.path-item.result c.loop-path-test.true c.path-item.is
           (old_one c.loop-path.before (take c.loop-path.path-index c.args.paths.now) one c.in_ok-insert.field-0 c.loop-path.invariant.has c.in_ok-insert.ensures.added c.if-not-branch.true) once),
     )
+
+pub returns-then-paths-lt2 : goal.returns-then-paths-lt2
+returns-then-paths-lt2 c = (λ _. few_once c.args.paths.now c.if-paths-lt2.true, λ _. refl)

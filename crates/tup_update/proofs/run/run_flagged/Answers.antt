@@ -45,14 +45,14 @@ returns-then-none_flagged-clause-sources g c = unchanged_sources g.S.Site c.args
 
 -- ---- the plan of what is flagged is run
 
-pub run_plan-requires-clause-may_run : goal.run_plan-requires-clause-may_run
-run_plan-requires-clause-may_run g c κs lives = found_may_run c.args.graph.nodes c.in-Ok-Some.field-0 c.in-Ok-Some.plan c.in-Ok-Some.field-0-is c.in-Ok-Some.ensures.may_run
+pub run_plan-updated-requires-clause-may_run : goal.run_plan-updated-requires-clause-may_run
+run_plan-updated-requires-clause-may_run g c κs lives = found_may_run c.args.graph.nodes c.in-Ok-Some.field-0 c.in-Ok-Some.plan c.in-Ok-Some.field-0-is c.in-Ok-Some.ensures.may_run
 
 pub returns-in-Ok-Some-clause-promised : goal.returns-in-Ok-Some-clause-promised
 returns-in-Ok-Some-clause-promised g c =
-    let done = c.run_plan.result in
+    let done = c.run_plan-updated.result in
     subst (λ (going : Bool). PromisesOver g.S.Site g.R.Runner going (length c.args.crew.items) c.args.graph c.args.site done.site done.log done.stopped)
-    (found_going c.args.asked.keep_going c.in-Ok-Some.field-0 c.in-Ok-Some.plan c.in-Ok-Some.field-0-is c.in-Ok-Some.ensures.keep_going) c.run_plan.ensures.promised
+    (found_going c.args.asked.keep_going c.in-Ok-Some.field-0 c.in-Ok-Some.plan c.in-Ok-Some.field-0-is c.in-Ok-Some.ensures.keep_going) c.run_plan-updated.ensures.promised
 
 -- ---- there was no memory for a plan, or it may not be run
 
@@ -92,8 +92,8 @@ returns-then-none_flagged-clause-logged g c = none_logged (length c.args.crew.it
 
 pub returns-in-Ok-Some-clause-logged : goal.returns-in-Ok-Some-clause-logged
 returns-in-Ok-Some-clause-logged g c =
-    let done = c.run_plan.result in
-    subst (λ (going : Bool). IsLogged (length c.args.crew.items) going done.log done.stopped) (found_going c.args.asked.keep_going c.in-Ok-Some.field-0 c.in-Ok-Some.plan c.in-Ok-Some.field-0-is c.in-Ok-Some.ensures.keep_going) c.run_plan.ensures.logged
+    let done = c.run_plan-updated.result in
+    subst (λ (going : Bool). IsLogged (length c.args.crew.items) going done.log done.stopped) (found_going c.args.asked.keep_going c.in-Ok-Some.field-0 c.in-Ok-Some.plan c.in-Ok-Some.field-0-is c.in-Ok-Some.ensures.keep_going) c.run_plan-updated.ensures.logged
 
 pub returns-in_default-clause-logged : goal.returns-in_default-clause-logged
 returns-in_default-clause-logged g c =
