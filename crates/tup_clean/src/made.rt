@@ -13,8 +13,8 @@ pub fn generated(alloc: Global, rules: &[Rule]) -> Result<BTreeSet<Path>, AllocE
     ensures { IfOk result (λ set. IsGenerated rules.now set) }
 {
     let mut set = BTreeSet::new(alloc);
-    for rule in rules {
-        add_paths(&mut set, rule.outputs.as_slice())?;
+    for at in (0..rules.len()).rev() {
+        add_paths(&mut set, rules[at].outputs.as_slice())?;
     }
     Ok(set)
 }
