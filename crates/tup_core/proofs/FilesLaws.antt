@@ -22,7 +22,7 @@ use Rattle.tup_core.specs.Listed.{stamp_of, IsRising, IsBehindLast}
 use Rattle.tup_core.specs.Step.{with_stamps}
 
 -- the test of the map is the test of paths, the other way round
-same_key : (path q : Names) → eq_by_cmp by_names path q ≡ same_path q path
+pub same_key : (path q : Names) → eq_by_cmp by_names path q ≡ same_path q path
 same_key path q = (eq_by_cmp_equiv by_names-total).symm path q ∙ sym (same_path-by_names q path)
 
 -- the stamp at a path once another has got one beside the list
@@ -67,20 +67,20 @@ kept_more old middle new first next = record {
   room = λ path had. next.room path (first.room path had);
 }
 
--- room for the outputs of one rule more
-pub rooms_more : (rules : List Rule) (test : ℕ → Bool) (i : ℕ) (item : Rule) (old new : FileStamps) → i < length rules → item ≡ get_or rules i item → AreKept old new → (test i ≡ true → (path : Names) → writes item path ≡ true → has_room new path ≡ true) →
-    ((at : ℕ) (rule : Rule) (path : Names) → at < i → test at ≡ true → slice_get rules at ≡ Some rule → writes rule path ≡ true → has_room old path ≡ true) →
-    (at : ℕ) (rule : Rule) (path : Names) → at < i + 1 → test at ≡ true → slice_get rules at ≡ Some rule → writes rule path ≡ true → has_room new path ≡ true
-rooms_more rules test i item old new within is kept one before at rule path below up here written = elim (cases_eq at i) [
-  | inr apart ↦ kept.room path (before at rule path (nearer at i apart below) up here written)
+-- what holds of the outputs of the first rules, holds of those of one more
+pub outputs_more : (rules : List Rule) (test : ℕ → Bool) (i : ℕ) (item : Rule) (old new : Names → Bool) → i < length rules → item ≡ get_or rules i item → ((path : Names) → old path ≡ true → new path ≡ true) →
+    (test i ≡ true → (path : Names) → writes item path ≡ true → new path ≡ true) → ((at : ℕ) (rule : Rule) (path : Names) → at < i → test at ≡ true → slice_get rules at ≡ Some rule → writes rule path ≡ true → old path ≡ true) →
+    (at : ℕ) (rule : Rule) (path : Names) → at < i + 1 → test at ≡ true → slice_get rules at ≡ Some rule → writes rule path ≡ true → new path ≡ true
+outputs_more rules test i item old new within is kept one before at rule path below up here written = elim (cases_eq at i) [
+  | inr apart ↦ kept path (before at rule path (nearer at apart below) up here written)
   | inl same ↦
       let placed : slice_get rules i ≡ Some item = slice_get-get_or rules i item within ∙ ap Some (sym is) in
       let equal : rule ≡ item = same_Some rule item (sym here ∙ ap (slice_get rules) same ∙ placed) in
       one (ap test (sym same) ∙ up) path (ap (λ (r : Rule). writes r path) (sym equal) ∙ written)
 ]
   where
-    nearer : (n m : ℕ) → (n ≡ m → ⊥) → n < m + 1 → n < m
-    nearer n m apart below = omega arith
+    nearer : (n : ℕ) → (n ≡ i → ⊥) → n < i + 1 → n < i
+    nearer n apart below = omega arith
 
 -- room for one path more
 pub room_more : (paths : List Names) (i : ℕ) (item : Names) (old new : FileStamps) → i < length paths → item ≡ get_or paths i item → AreKept old new → has_room new item ≡ true →

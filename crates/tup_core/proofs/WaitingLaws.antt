@@ -19,99 +19,107 @@ use Rattle.tup_clean.specs.Readers.{AreReaders}
 use Rattle.tup_clean.proofs.Counting.{one_if-same, one_if-other, count_of-take, count_of-take-le}
 use Rattle.tup_core.specs.declared.waiting.Waiting.{Waiting}
 use Rattle.tup_core.specs.Waiting.{flag, number, times, counts, taken, is_last, AreDown, AreWithin, AreInner, AreCounts, AreEntries, Leads, LeadsOver, ProducerBeside, AreWaiters, AreAllWaiters, IsShort, total, waits_in, IsWaiting, CanRelease, Releases}
+use Rattle.tup_core.specs.Links.{AreSound, AreWhole, AreNear, AreLinks}
 use Rattle.tup_core.proofs.ItemLaws.{set_same, set_other, flag_within}
 
 -- ---- producers of a rule
 
--- a counted place is the maker of one of the paths
-makes_one : (rules : List Rule) (paths : List Names) (other : ℕ) → 0 < count_of other (filter_map (λ path. maker path rules) paths) → (path : Names) × (among path paths ≡ true) × (maker path rules ≡ Some other)
-makes_one rules [] other some = absurd (omega arith)
-makes_one rules (path ∷ paths) other some =
-    by (maker path rules) refl (λ later. let rest = makes_one rules paths other later in (rest.0, or_right (same_path rest.0 path) (among rest.0 paths) rest.1, rest.2)) some
+-- a counted place is what one of the paths leads to
+pub makes_one : (maker_of : Names → Option ℕ) (paths : List Names) (other : ℕ) → 0 < count_of other (filter_map maker_of paths) → (path : Names) × (among path paths ≡ true) × (maker_of path ≡ Some other)
+makes_one maker_of [] other some = absurd (omega arith)
+makes_one maker_of (path ∷ paths) other some =
+    by (maker_of path) refl (λ later. let rest = makes_one maker_of paths other later in (rest.0, or_right (same_path rest.0 path) (among rest.0 paths) rest.1, rest.2)) some
   where
-    by : (made : Option ℕ) → maker path rules ≡ made → (0 < count_of other (filter_map (λ p. maker p rules) paths) → (one : Names) × (among one (path ∷ paths) ≡ true) × (maker one rules ≡ Some other)) →
-        0 < count_of other (cons_option made (filter_map (λ p. maker p rules) paths)) → (one : Names) × (among one (path ∷ paths) ≡ true) × (maker one rules ≡ Some other)
+    by : (made : Option ℕ) → maker_of path ≡ made → (0 < count_of other (filter_map maker_of paths) → (one : Names) × (among one (path ∷ paths) ≡ true) × (maker_of one ≡ Some other)) →
+        0 < count_of other (cons_option made (filter_map maker_of paths)) → (one : Names) × (among one (path ∷ paths) ≡ true) × (maker_of one ≡ Some other)
     by None is later some = later some
     by (Some m) is later some = elim (cases_eq m other) [
       | inl same ↦ (path, or_left (same_path path path) (among path paths) ((same_path-decides path path).1 refl), is ∙ ap Some same)
       | inr apart ↦ later (let none = one_if-other m other apart in omega (arith, none, some))
     ]
 
--- and the maker of each of the paths is counted
-counts_one : (rules : List Rule) (paths : List Names) (path : Names) (other : ℕ) → among path paths ≡ true → maker path rules ≡ Some other → 0 < count_of other (filter_map (λ p. maker p rules) paths)
-counts_one rules [] path other found made = absurd (true≢false (sym found))
-counts_one rules (first ∷ paths) path other found made =
+-- and what each of the paths leads to is counted
+pub counts_one : (maker_of : Names → Option ℕ) (paths : List Names) (path : Names) (other : ℕ) → among path paths ≡ true → maker_of path ≡ Some other → 0 < count_of other (filter_map maker_of paths)
+counts_one maker_of [] path other found made = absurd (true≢false (sym found))
+counts_one maker_of (first ∷ paths) path other found made =
     elim (or_cases (same_path path first) (among path paths) found) [
-      | inl same ↦ here (maker first rules) (ap (λ p. maker p rules) (sym ((same_path-decides path first).0 same)) ∙ made)
-      | inr later ↦ more (maker first rules) (counts_one rules paths path other later made)
+      | inl same ↦ here (maker_of first) (ap maker_of (sym ((same_path-decides path first).0 same)) ∙ made)
+      | inr later ↦ more (maker_of first) (counts_one maker_of paths path other later made)
     ]
   where
-    here : (one : Option ℕ) → one ≡ Some other → 0 < count_of other (cons_option one (filter_map (λ p. maker p rules) paths))
+    here : (one : Option ℕ) → one ≡ Some other → 0 < count_of other (cons_option one (filter_map maker_of paths))
     here None is = absurd (none-some other is)
     here (Some m) is = let one = one_if-same m other (same_Some m other is) in omega (arith, one)
 
-    more : (one : Option ℕ) → 0 < count_of other (filter_map (λ p. maker p rules) paths) → 0 < count_of other (cons_option one (filter_map (λ p. maker p rules) paths))
+    more : (one : Option ℕ) → 0 < count_of other (filter_map maker_of paths) → 0 < count_of other (cons_option one (filter_map maker_of paths))
     more None rest = rest
     more (Some m) rest = omega (arith, rest)
 
 pub produces_makes : (rules : List Rule) (rule : Rule) (other : ℕ) → 0 < count_of other (producers rules rule) → MakesFor rules rule other
 produces_makes rules rule other some =
-    let one = makes_one rules (rule.inputs ++ rule.order) other some in
+    let one = makes_one (λ path. maker path rules) (rule.inputs ++ rule.order) other some in
     (one.0, sym (list_any-append (same_path one.0) rule.inputs rule.order) ∙ one.1, one.2)
 
 pub makes_produces : (rules : List Rule) (rule : Rule) (other : ℕ) → MakesFor rules rule other → 0 < count_of other (producers rules rule)
 makes_produces rules rule other (path, declared, made) =
-    counts_one rules (rule.inputs ++ rule.order) path other (list_any-append (same_path path) rule.inputs rule.order ∙ declared) made
+    counts_one (λ p. maker p rules) (rule.inputs ++ rule.order) path other (list_any-append (same_path path) rule.inputs rule.order ∙ declared) made
 
 -- ---- readers of a rule
 
 -- a list that has something is there
-there : (lists : List (List ℕ)) (other at : ℕ) → 0 < times lists other at → slice_get lists other ≡ Some (unwrap_or (slice_get lists other) [])
+pub there : (lists : List (List ℕ)) (other at : ℕ) → 0 < times lists other at → slice_get lists other ≡ Some (unwrap_or (slice_get lists other) [])
 there [] other at some = absurd (omega arith)
 there (list ∷ lists) zero at some = refl
 there (list ∷ lists) (suc other) at some = there lists other at some
 
 -- a place within a list has an entry
-entry_of : (lists : List (List ℕ)) (other : ℕ) → other < length lists → slice_get lists other ≡ Some (unwrap_or (slice_get lists other) [])
+pub entry_of : (lists : List (List ℕ)) (other : ℕ) → other < length lists → slice_get lists other ≡ Some (unwrap_or (slice_get lists other) [])
 entry_of [] other within = absurd (omega arith)
 entry_of (list ∷ lists) zero within = refl
 entry_of (list ∷ lists) (suc other) within = entry_of lists other (omega arith)
 
-reads_makes : (rules : List Rule) (readers : List (List ℕ)) (other at : ℕ) (rule : Rule) → AreReaders rules readers → slice_get rules at ≡ Some rule → 0 < times readers other at → MakesFor rules rule other
-reads_makes rules readers other at rule are here some =
-    produces_makes rules rule other (subst (λ (n : ℕ). 0 < n) (are.each at other rule (unwrap_or (slice_get readers other) []) here (there readers other at some)) some)
-
-makes_reads : (rules : List Rule) (readers : List (List ℕ)) (other at : ℕ) (rule : Rule) → AreReaders rules readers → other < length rules → slice_get rules at ≡ Some rule → MakesFor rules rule other → 0 < times readers other at
-makes_reads rules readers other at rule are within here makes =
-    let inside : other < length readers = subst (λ (n : ℕ). other < n) (sym are.many) within in
-    subst (λ (n : ℕ). 0 < n) (sym (are.each at other rule (unwrap_or (slice_get readers other) []) here (entry_of readers other inside))) (makes_produces rules rule other makes)
-
--- a reader is a rule
-reader_there : (rules : List Rule) (readers : List (List ℕ)) (other at : ℕ) → AreReaders rules readers → 0 < times readers other at → (rule : Rule) × (slice_get rules at ≡ Some rule)
-reader_there rules readers other at are some = by (slice_get rules at) refl
+-- the readers of all rules are links
+pub readers_links : (rules : List Rule) (reached : List Bool) (readers : List (List ℕ)) → length reached ≡ length rules → AreReaders rules readers → AreLinks rules reached readers
+readers_links rules reached readers long are = record {
+  near = record {
+    many = are.many;
+    sound = λ other at some. sound other at some (slice_get rules at) refl;
+    first = λ other at rule up here makes. whole other at rule (subst (λ (n : ℕ). other < n) long (flag_within reached other up)) here makes;
+  };
+  others = inr whole;
+}
   where
-    by : (found : Option Rule) → slice_get rules at ≡ found → (rule : Rule) × (slice_get rules at ≡ Some rule)
-    by (Some rule) is = (rule, is)
-    by None is = absurd (let none = are.within at other (unwrap_or (slice_get readers other) []) is (there readers other at some) in omega (arith, none, some))
+    sound : (other at : ℕ) → 0 < times readers other at → (found : Option Rule) → slice_get rules at ≡ found → (rule : Rule) × (slice_get rules at ≡ Some rule) × MakesFor rules rule other
+    sound other at some (Some rule) is =
+        (rule, is, produces_makes rules rule other (subst (λ (n : ℕ). 0 < n) (are.each at other rule (unwrap_or (slice_get readers other) []) is (there readers other at some)) some))
+    sound other at some None is = absurd (let none = are.within at other (unwrap_or (slice_get readers other) []) is (there readers other at some) in omega (arith, none, some))
+
+    whole : AreWhole rules readers
+    whole other at rule within here makes =
+        let inside : other < length readers = subst (λ (n : ℕ). other < n) (sym are.many) within in
+        subst (λ (n : ℕ). 0 < n) (sym (are.each at other rule (unwrap_or (slice_get readers other) []) here (entry_of readers other inside))) (makes_produces rules rule other makes)
+
+reads_makes : (rules : List Rule) (readers : List (List ℕ)) (other at : ℕ) (rule : Rule) → AreSound rules readers → slice_get rules at ≡ Some rule → 0 < times readers other at → MakesFor rules rule other
+reads_makes rules readers other at rule sound here some = let one = sound other at some in subst (λ (r : Rule). MakesFor rules r other) (same_Some one.0 rule (sym one.1 ∙ here)) one.2
 
 -- what a rule leads to is a rule
-led_there : (rules : List Rule) (readers : List (List ℕ)) (between from at : ℕ) → AreReaders rules readers → Leads between readers from at → (rule : Rule) × (slice_get rules at ≡ Some rule)
-led_there rules readers zero from at are some = reader_there rules readers from at are some
-led_there rules readers (suc between) from at are (next, leads, some) = reader_there rules readers next at are some
+led_there : (rules : List Rule) (readers : List (List ℕ)) (between from at : ℕ) → AreSound rules readers → Leads between readers from at → (rule : Rule) × (slice_get rules at ≡ Some rule)
+led_there rules readers zero from at sound some = let one = sound from at some in (one.0, one.1)
+led_there rules readers (suc between) from at sound (next, leads, some) = let one = sound next at some in (one.0, one.1)
 
 -- and it is a declared producer of that
-leads_produces : (rules : List Rule) (readers : List (List ℕ)) (between from at : ℕ) (rule : Rule) → AreReaders rules readers → slice_get rules at ≡ Some rule → Leads between readers from at → ProducerOver between rules rule from
-leads_produces rules readers zero from at rule are here some = reads_makes rules readers from at rule are here some
-leads_produces rules readers (suc between) from at rule are here (next, leads, some) =
-    let found = led_there rules readers between from next are leads in
-    (next, found.0, reads_makes rules readers next at rule are here some, found.1, leads_produces rules readers between from next found.0 are found.1 leads)
+leads_produces : (rules : List Rule) (readers : List (List ℕ)) (between from at : ℕ) (rule : Rule) → AreSound rules readers → slice_get rules at ≡ Some rule → Leads between readers from at → ProducerOver between rules rule from
+leads_produces rules readers zero from at rule sound here some = reads_makes rules readers from at rule sound here some
+leads_produces rules readers (suc between) from at rule sound here (next, leads, some) =
+    let found = led_there rules readers between from next sound leads in
+    (next, found.0, reads_makes rules readers next at rule sound here some, found.1, leads_produces rules readers between from next found.0 sound found.1 leads)
 
 -- what is made for a rule over others that weren't reached, stands in lists so
-beside_leads : (rules : List Rule) (readers : List (List ℕ)) (reached : List Bool) (between from at : ℕ) (rule : Rule) → AreReaders rules readers → from < length rules → slice_get rules at ≡ Some rule →
+beside_leads : (rules : List Rule) (readers : List (List ℕ)) (reached : List Bool) (between from at : ℕ) (rule : Rule) → AreWhole rules readers → from < length rules → slice_get rules at ≡ Some rule →
     ProducerBeside between rules (flag reached) rule from → LeadsOver between readers reached from at
-beside_leads rules readers reached zero from at rule are within here makes = makes_reads rules readers from at rule are within here makes
-beside_leads rules readers reached (suc between) from at rule are within here (next, other, makes, placed, outside, rest) =
-    (next, beside_leads rules readers reached between from next other are within placed rest, outside, makes_reads rules readers next at rule are (slice_get_within rules next other placed) here makes)
+beside_leads rules readers reached zero from at rule whole within here makes = whole from at rule within here makes
+beside_leads rules readers reached (suc between) from at rule whole within here (next, other, makes, placed, outside, rest) =
+    (next, beside_leads rules readers reached between from next other whole within placed rest, outside, whole next at rule (slice_get_within rules next other placed) here makes)
 
 -- ---- all waiters
 
@@ -159,16 +167,16 @@ module _ (readers lists : List (List ℕ)) (reached entries : List Bool) (all : 
       ]
 
 -- all that waits stands among the rules
-pub waiters_within : (rules : List Rule) (readers lists : List (List ℕ)) (reached entries : List Bool) → AreReaders rules readers → AreAllWaiters readers reached entries lists → AreWithin lists
+pub waiters_within : (rules : List Rule) (readers lists : List (List ℕ)) (reached entries : List Bool) → AreNear rules reached readers → AreAllWaiters readers reached entries lists → AreWithin lists
 waiters_within rules readers lists reached entries are all = λ from at some.
     let leads = listed_leads readers lists reached entries all from at some in
-    let found = led_there rules readers leads.0 from at are leads.1 in
+    let found = led_there rules readers leads.0 from at are.sound leads.1 in
     subst (λ (n : ℕ). at < n) (sym (all.many ∙ are.many)) (slice_get_within rules at found.0 found.1)
 
 -- readers stand among the rules
-pub readers_within : (rules : List Rule) (readers : List (List ℕ)) → AreReaders rules readers → AreWithin readers
-readers_within rules readers are = λ from at some.
-    let found = reader_there rules readers from at are some in
+pub readers_within : (rules : List Rule) (reached : List Bool) (readers : List (List ℕ)) → AreNear rules reached readers → AreWithin readers
+readers_within rules reached readers are = λ from at some.
+    let found = are.sound from at some in
     subst (λ (n : ℕ). at < n) (sym are.many) (slice_get_within rules at found.0 found.1)
 
 -- ---- counts
@@ -249,33 +257,37 @@ counts_beside reached pending waits from down = ap (λ (b : Bool). if b then fla
 
 -- ---- what rules wait for at the start
 
-pub waiting_start : (rules : List Rule) (readers : List (List ℕ)) (reached entries : List Bool) (waiting : Waiting) → length reached ≡ length rules → AreReaders rules readers → AreEntries readers reached entries →
+pub waiting_start : (rules : List Rule) (readers : List (List ℕ)) (reached entries : List Bool) (waiting : Waiting) → length reached ≡ length rules → AreLinks rules reached readers → AreEntries readers reached entries →
     AreAllWaiters readers reached entries waiting.waiters.items → waiting.reached.items ≡ reached → ((at : ℕ) → number waiting.waits.items at ≡ total waiting.waiters.items at) → IsWaiting rules (flag reached) reached waiting
 waiting_start rules readers reached entries waiting long are some_up all same sums = record {
-  many = all.many ∙ are.many;
+  many = all.many ∙ are.near.many;
   flags = λ at. ap (λ (l : List Bool). flag l at) same;
   within = λ at up. up;
   counted = λ at. sums at ∙ total_waits waiting.waiters.items (counts (flag reached) reached waiting.waits.items) at (λ from down. none_listed from at down);
   first = λ from at rule up here makes.
       let within : from < length rules = subst (λ (n : ℕ). from < n) long (flag_within reached from up) in
-      ((of from (inside from within)).listed up).all at (makes_reads rules readers from at rule are within here makes);
+      ((of from (inside from within)).listed up).all at (are.near.first from at rule up here makes);
   behind = λ from next between at rule up some outside here beside inside_at.
-      let entry = some_up.up from next up (((of from (listed_here readers waiting.waiters.items reached entries all from next some)).listed up).only next some) in
+      let reads = ((of from (listed_here readers waiting.waiters.items reached entries all from next some)).listed up).only next some in
+      let entry = some_up.up from next up reads in
       let within : next < length readers = subst (λ (n : ℕ). next < n) some_up.many (flag_within entries next entry) in
-      ((of next within).behind outside entry).all between at (beside_leads rules readers reached between next at rule are (subst (λ (n : ℕ). next < n) are.many within) here beside) inside_at;
+      elim are.others [
+        | inl alone ↦ absurd (true≢false (sym (alone from next reads) ∙ outside))
+        | inr whole ↦ ((of next within).behind outside entry).all between at (beside_leads rules readers reached between next at rule whole (subst (λ (n : ℕ). next < n) are.near.many within) here beside) inside_at
+      ];
   inner = λ from at down some.
       ap (λ (l : List Bool). flag l at) same ∙ listed_inner readers waiting.waiters.items reached entries all from at (sym (ap (λ (l : List Bool). flag l from) same) ∙ down) some;
   led = λ from at some.
       let leads = listed_leads readers waiting.waiters.items reached entries all from at some in
-      let found = led_there rules readers leads.0 from at are leads.1 in
-      (found.0, found.1, (leads.0, leads_produces rules readers leads.0 from at found.0 are found.1 leads.1));
+      let found = led_there rules readers leads.0 from at are.near.sound leads.1 in
+      (found.0, found.1, (leads.0, leads_produces rules readers leads.0 from at found.0 are.near.sound found.1 leads.1));
 }
   where
     of : (from : ℕ) → from < length readers → AreWaiters readers reached entries from (unwrap_or (slice_get waiting.waiters.items from) [])
     of from within = all.each from within
 
     inside : (from : ℕ) → from < length rules → from < length readers
-    inside from within = subst (λ (n : ℕ). from < n) (sym are.many) within
+    inside from within = subst (λ (n : ℕ). from < n) (sym are.near.many) within
 
     -- what reads what a reached rule makes is counted
     entry_counted : (from : ℕ) → flag entries from ≡ true → 0 < number waiting.waits.items from

@@ -9,6 +9,7 @@ pub mod Laws
 pub mod Listed
 pub mod Files
 pub mod Waiting
+pub mod Links
 pub mod Walk
 pub mod Ending
 pub mod Machine

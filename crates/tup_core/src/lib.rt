@@ -12,6 +12,7 @@ mod event;
 mod fault;
 mod files;
 mod laws;
+mod links;
 mod machine;
 mod plan;
 mod running;

@@ -5,10 +5,10 @@ ghost use Rattle.tup_core.specs.Walk.{Raises, readers_if};
 ghost use Rattle.tup_core.specs.Waiting as specs;
 ghost use Rattle.tup_core.specs.Waiting.{number, flag, taken, IsWaiting, AreWithin, AreDown, AreInner, AreEntries, AreAllWaiters, AreCounts, IsShort, Releases, CanRelease};
 
+use crate::links::links;
 use crate::start::{copied, is_up, lowered};
 use crate::walk::waiters_of;
 use std::alloc::{AllocError, Global};
-use tup_clean::readers;
 use tup_path::Items;
 use tup_rule::Rule;
 
@@ -38,7 +38,7 @@ impl Waiting {
         requires { length pending.now ≡ length rules.now }
         ensures { IfOk result (IsWaiting rules.now (flag pending.now) pending.now) }
     {
-        let listed = readers(alloc, rules)?;
+        let listed = links(alloc, rules, pending)?;
         let entries = entries(alloc, &listed, pending)?;
         let waiters = all_waiters(alloc, &listed, pending, &entries)?;
         let waits = counted(alloc, &waiters)?;

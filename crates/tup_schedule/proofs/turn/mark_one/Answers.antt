@@ -1,6 +1,5 @@
-use Rattle.std.proofs.Common.{◌≡◌, ◌==◌, ◌∙◌, Bool, ℕ, sym, ap, arith}
+use Rattle.std.proofs.Common.{◌==◌, ◌∙◌, Bool, sym, ap, arith}
 use Rattle.std.specs.Prelude.{if◌then◌else◌}
-use Rattle.tup_core.specs.Reading.{open_test}
 use Rattle.tup_schedule.specs.Marks.{is_marked}
 use Rattle.tup_schedule.proofs.TurnLaws.{told_alone, told_with}
 use Rattle.tup_schedule.proofs.turn.mark_one.Goals as goal

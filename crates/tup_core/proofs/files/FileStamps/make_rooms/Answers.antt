@@ -1,7 +1,8 @@
 use Rattle.std.proofs.Common.{◌<◌, ℕ, ◌∙◌, arith}
 use Rattle.std.proofs.lemmas.Option.{slice_get_within}
+use Rattle.tup_core.specs.Files.{has_room}
 use Rattle.tup_core.specs.Waiting.{flag}
-use Rattle.tup_core.proofs.FilesLaws.{kept_all, kept_more, rooms_more}
+use Rattle.tup_core.proofs.FilesLaws.{kept_all, kept_more, outputs_more}
 use Rattle.tup_core.proofs.files.FileStamps.make_rooms.Goals as goal
 
 none : (n : ℕ) → n < 0 → ⊥
@@ -16,7 +17,7 @@ loop-at-preserved c =
     record {
       kept = kept_more c.args.self.now c.loop-at.self c.make_room_if.new.self before.kept c.in_ok-make_room_if.ensures.kept;
       room =
-          rooms_more c.args.rules.now (flag c.args.flags.now) c.loop-at.at c.index-rules-at.result c.loop-at.self c.make_room_if.new.self c.loop-at-test.true c.index-rules-at.is c.in_ok-make_room_if.ensures.kept
+          outputs_more c.args.rules.now (flag c.args.flags.now) c.loop-at.at c.index-rules-at.result (has_room c.loop-at.self) (has_room c.make_room_if.new.self) c.loop-at-test.true c.index-rules-at.is c.in_ok-make_room_if.ensures.kept.room
           (λ up. c.in_ok-make_room_if.ensures.room (c.is_up.ensures ∙ up)) before.room;
     }
 

@@ -4,16 +4,16 @@ use Rattle.tup_core.proofs.WaitingLaws.{readers_within, waiters_within, waiters_
 use Rattle.tup_core.proofs.waiting.Waiting.new.Goals as goal
 
 pub entries-requires-clause-within : goal.entries-requires-clause-within
-entries-requires-clause-within c = subst AreWithin (sym c.deref.ensures.value) (readers_within c.args.rules.now c.in_ok-listed.listed.items c.in_ok-listed.ensures)
+entries-requires-clause-within c = subst AreWithin (sym c.deref.ensures.value) (readers_within c.args.rules.now c.args.pending.now c.in_ok-listed.listed.items c.in_ok-listed.ensures.near)
 
 pub entries-requires-clause-reached : goal.entries-requires-clause-reached
-entries-requires-clause-reached c = c.requires ∙ sym (ap length c.deref.ensures.value ∙ c.in_ok-listed.ensures.many)
+entries-requires-clause-reached c = c.requires ∙ sym (ap length c.deref.ensures.value ∙ c.in_ok-listed.ensures.near.many)
 
 pub all_waiters-requires-clause-within : goal.all_waiters-requires-clause-within
-all_waiters-requires-clause-within c = subst AreWithin (sym c.deref-2.ensures.value) (readers_within c.args.rules.now c.in_ok-listed.listed.items c.in_ok-listed.ensures)
+all_waiters-requires-clause-within c = subst AreWithin (sym c.deref-2.ensures.value) (readers_within c.args.rules.now c.args.pending.now c.in_ok-listed.listed.items c.in_ok-listed.ensures.near)
 
 pub all_waiters-requires-clause-reached : goal.all_waiters-requires-clause-reached
-all_waiters-requires-clause-reached c = c.requires ∙ sym (ap length c.deref-2.ensures.value ∙ c.in_ok-listed.ensures.many)
+all_waiters-requires-clause-reached c = c.requires ∙ sym (ap length c.deref-2.ensures.value ∙ c.in_ok-listed.ensures.near.many)
 
 pub all_waiters-requires-clause-entries : goal.all_waiters-requires-clause-entries
 all_waiters-requires-clause-entries c = ap length c.deref-3.ensures.value ∙ c.in_ok-entries.ensures.many ∙ ap length (c.deref.ensures.value ∙ sym c.deref-2.ensures.value)
@@ -28,7 +28,7 @@ counted-requires-clause-within c =
     let readers = c.in_ok-listed.listed.items in
     let entries = c.in_ok-entries.entries.items in
     let all = all_there readers c.deref-2.result.now c.in_ok-waiters.waiters.items c.args.pending.now entries c.deref-3.result.now c.deref-2.ensures.value c.deref-3.ensures.value c.in_ok-waiters.ensures in
-    subst AreWithin (sym c.deref-4.ensures.value) (waiters_within c.args.rules.now readers c.in_ok-waiters.waiters.items c.args.pending.now entries c.in_ok-listed.ensures all)
+    subst AreWithin (sym c.deref-4.ensures.value) (waiters_within c.args.rules.now readers c.in_ok-waiters.waiters.items c.args.pending.now entries c.in_ok-listed.ensures.near all)
 
 pub counted-requires-clause-short : goal.counted-requires-clause-short
 counted-requires-clause-short c =

@@ -1,4 +1,4 @@
-use Rattle.std.proofs.Common.{◌≤◌, ◌∙◌, length, arith}
+use Rattle.std.proofs.Common.{◌∙◌, arith}
 use Rattle.tup_schedule.proofs.TurnLaws.{waiters_here, waiters_marked, waiters_listed, behind_marked, turn_frees}
 use Rattle.tup_schedule.proofs.turn.Turn.free.Goals as goal
 

@@ -1,0 +1,208 @@
+//! Who reads what the reached rules make, found without the readers of all other rules.
+ghost use Rattle.std.specs.Prelude.{◌≡◌, ◌∷◌, ◌&&◌, ◌<◌, [], ℕ, true, Some, not, IfOk, OnOk, IsTrue, is_some, length, replicate};
+ghost use Rattle.std.specs.BTreeMap.{get};
+ghost use Rattle.std.specs.BTreeSet.{contains};
+ghost use Rattle.tup_path.specs.Name.{Names};
+ghost use Rattle.tup_path.specs.Order.{by_names};
+ghost use Rattle.tup_rule.specs.Makers.{producers_in};
+ghost use Rattle.tup_rule.specs.Rule.{writes};
+ghost use Rattle.tup_clean.specs.Queue.{count_of, AreBelow, IsNoted};
+ghost use Rattle.tup_core.specs.Links.{AreLinks, AreListed, AreMade, AreNear, AreUp, HasMakersIn, AddsMakerIn};
+ghost use Rattle.tup_core.specs.Waiting.{flag};
+
+use crate::start::is_up;
+use crate::waiting::Places;
+use std::alloc::{AllocError, Global};
+use std::collections::{BTreeMap, BTreeSet};
+use tup_access::add_paths;
+use tup_clean::readers;
+use tup_path::{Items, Path};
+use tup_rule::{Makers, Rule, producers_of};
+
+/// The readers of all rules; or, where reached rules alone read what reached ones make, the readers of those.
+pub(crate) fn links(
+    alloc: Global,
+    rules: &[Rule],
+    reached: &[bool],
+) -> Result<Vec<Places>, AllocError>
+    requires { length reached.now ≡ length rules.now }
+    ensures { IfOk result (λ lists. AreLinks rules.now reached.now lists.items) }
+{
+    let near = near_readers(alloc, rules, reached)?;
+    if are_up(&near, reached) {
+        return Ok(near);
+    }
+    readers(alloc, rules)
+}
+
+/// The readers of the reached rules, and of no others but those that make an output of a reached one before it.
+fn near_readers(alloc: Global, rules: &[Rule], reached: &[bool]) -> Result<Vec<Places>, AllocError>
+    ensures { IfOk result (λ lists. AreNear rules.now reached.now lists.items) }
+{
+    let made = made_by(alloc, rules, reached)?;
+    let makers = makers_of(alloc, rules, &made)?;
+    readers_by(alloc, rules, &makers)
+}
+
+/// The outputs of the rules whose flags are up.
+fn made_by(alloc: Global, rules: &[Rule], flags: &[bool]) -> Result<BTreeSet<Path>, AllocError>
+    ensures { IfOk result (AreMade rules.now flags.now) }
+{
+    let mut made = BTreeSet::new(alloc);
+    for (at, rule) in rules.iter().enumerate() {
+        add_if(&mut made, rule, is_up(flags, at))?;
+    }
+    Ok(made)
+}
+
+/// Adds the outputs of a rule, where they are asked for.
+fn add_if(made: &mut BTreeSet<Path>, rule: &Rule, asked: bool) -> Result<(), AllocError>
+    ensures kept { OnOk result ((path : Names) → contains by_names made.old path ≡ true
+        → contains by_names made.new path ≡ true) }
+    ensures added { OnOk result (asked ≡ true → (path : Names) → writes rule.now path ≡ true
+        → contains by_names made.new path ≡ true) }
+{
+    if asked {
+        add_paths(made, rule.outputs.as_slice())?;
+    }
+    Ok(())
+}
+
+/// The makers of some paths.
+fn makers_of(alloc: Global, rules: &[Rule], made: &BTreeSet<Path>) -> Result<Makers, AllocError>
+    ensures { IfOk result (HasMakersIn made.now rules.now) }
+{
+    let mut makers = BTreeMap::new(alloc);
+    for (at, rule) in rules.iter().enumerate() {
+        add_made(&mut makers, made, rule.outputs.as_slice(), at)?;
+    }
+    Ok(makers)
+}
+
+/// Notes a rule as the maker of those of its outputs that are asked for, save of those that have one.
+fn add_made(
+    makers: &mut Makers,
+    made: &BTreeSet<Path>,
+    outputs: &[Path],
+    at: usize,
+) -> Result<(), AllocError>
+    ensures { OnOk result (AddsMakerIn made.now outputs.now at makers.old makers.new) }
+{
+    for output in outputs {
+        add_one(makers, made, output, at)?;
+    }
+    Ok(())
+}
+
+/// Notes a rule as the maker of an output, if that is asked for and has none.
+fn add_one(
+    makers: &mut Makers,
+    made: &BTreeSet<Path>,
+    output: &Path,
+    at: usize,
+) -> Result<(), AllocError>
+    ensures { OnOk result (AddsMakerIn made.now (output.now ∷ []) at makers.old makers.new) }
+{
+    if is_new(makers, made, output) {
+        makers.insert(output.clone()?, at)?;
+    }
+    Ok(())
+}
+
+/// Whether the maker of a path is asked for, and isn't known.
+fn is_new(makers: &Makers, made: &BTreeSet<Path>, path: &Path) -> bool
+    ensures { result ≡ (contains by_names made.now path.now
+        && not (is_some (get by_names makers.now path.now))) }
+{
+    made.contains(path) && !makers.contains_key(path)
+}
+
+/// For each rule, the rules that declare what it makes by a map.
+fn readers_by(alloc: Global, rules: &[Rule], makers: &Makers) -> Result<Vec<Places>, AllocError>
+    requires { (path : Names) (at : ℕ) → get by_names makers.now path ≡ Some at
+        → at < length rules.now }
+    ensures { IfOk result (λ lists. AreListed rules.now makers.now (length rules.now) lists.items) }
+{
+    let mut lists = no_readers(alloc, rules.len())?;
+    note_rules(alloc, rules, makers, &mut lists)?;
+    Ok(lists)
+}
+
+/// An empty list for each rule.
+fn no_readers(alloc: Global, count: usize) -> Result<Vec<Places>, AllocError>
+    ensures { IfOk result (λ lists. lists.items ≡ replicate count []) }
+{
+    let mut lists = Vec::new(alloc);
+    for _ in 0..count {
+        lists.push(Items::new(alloc))?;
+    }
+    Ok(lists)
+}
+
+/// Notes each rule with those that make by a map what it declares.
+fn note_rules(
+    alloc: Global,
+    rules: &[Rule],
+    makers: &Makers,
+    lists: &mut [Places],
+) -> Result<(), AllocError>
+    requires below { (path : Names) (at : ℕ) → get by_names makers.now path ≡ Some at
+        → at < length lists.old }
+    requires none { AreListed rules.now makers.now 0 lists.old }
+    ensures { OnOk result (AreListed rules.now makers.now (length rules.now) lists.new) }
+{
+    for (at, rule) in rules.iter().enumerate() {
+        note_rule(alloc, makers, rule, at, lists)?;
+    }
+    Ok(())
+}
+
+/// Notes a rule with those that make by a map what it declares.
+fn note_rule(
+    alloc: Global,
+    makers: &Makers,
+    rule: &Rule,
+    at: usize,
+    lists: &mut [Places],
+) -> Result<(), AllocError>
+    requires { AreBelow (producers_in makers.now rule.now) (length lists.old) }
+    ensures { OnOk result (IsNoted at (producers_in makers.now rule.now) lists.old lists.new) }
+{
+    let producers = producers_of(alloc, makers, rule)?;
+    note_each(&producers, at, lists)
+}
+
+/// Notes a rule with each of some others.
+fn note_each(producers: &[usize], reader: usize, lists: &mut [Places]) -> Result<(), AllocError>
+    requires { AreBelow producers.now (length lists.old) }
+    ensures { OnOk result (IsNoted reader producers.now lists.old lists.new) }
+{
+    for producer in producers {
+        lists[*producer].push(reader)?;
+    }
+    Ok(())
+}
+
+/// Whether the flag of each rule in some lists is up.
+fn are_up(lists: &[Places], flags: &[bool]) -> bool
+    ensures { IsTrue result → AreUp lists.now flags.now }
+{
+    for list in lists {
+        if !are_all_up(list.as_slice(), flags) {
+            return false;
+        }
+    }
+    true
+}
+
+/// Whether the flag of each of some rules is up.
+fn are_all_up(places: &[usize], flags: &[bool]) -> bool
+    ensures { IsTrue result → (at : ℕ) → 0 < count_of at places.now → flag flags.now at ≡ true }
+{
+    for place in places {
+        if !is_up(flags, *place) {
+            return false;
+        }
+    }
+    true
+}
