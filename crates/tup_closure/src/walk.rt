@@ -1,13 +1,12 @@
 //! The rules that recorded reads lead to.
-ghost use Rattle.std.specs.Prelude.{◌≡◌, ◌⊎◌, ◌↔◌, ◌+◌, ◌≤◌, ℕ, List, [], true, if◌then◌else◌, All, Contains, length, IfOk, IfErr, OnErr, OnOk};
+ghost use Rattle.std.specs.Prelude.{◌≡◌, ◌↔◌, ◌+◌, ◌≤◌, ℕ, List, [], true, if◌then◌else◌, Contains, length, IfOk, IfErr, OnErr, OnOk};
 ghost use Rattle.std.specs.List.Sorted.{IsStrictlySortedBy};
-ghost use Rattle.std.specs.BTreeSet.{IsOrdered};
 ghost use Rattle.std.specs.Ordering.{nat_cmp};
 ghost use Rattle.tup_graph.specs.Above.{HasAsked, IsAbove};
 ghost use Rattle.tup_graph.specs.Graph.{is_rule, outputs_of as outputs_in};
 ghost use Rattle.tup_closure.specs.Readers.{AreRunsOfRules, HasAskedOneOf};
 ghost use Rattle.tup_closure.specs.Steps.{HasStepped, HasSteppedAtMost, IsListOf, looks_at, readers_of};
-ghost use Rattle.tup_closure.specs.Walk.{GoesTo, IsReached};
+ghost use Rattle.tup_closure.specs.Walk.{GoesTo};
 
 use crate::steps::Steps;
 use std::alloc::Global;

@@ -17,7 +17,6 @@ use Rattle.tup_rule.specs.declared.question.Noted.{Noted}
 use Rattle.tup_rule.specs.declared.question.Noted.TheVariants as notes
 use Rattle.tup_rule.specs.declared.question.Question.{Question}
 use Rattle.tup_rule.specs.declared.question.Question.TheVariants as asks
-use Rattle.tup_rule.specs.declared.question.Reading.{Reading}
 use Rattle.tup_vars.specs.Table.{Entries}
 use Rattle.tup_readings.specs.Readings.{AreAllReadings}
 use Rattle.tup_readings.specs.Sources.{settings_of}

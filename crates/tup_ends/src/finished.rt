@@ -22,7 +22,6 @@ ghost use Rattle.tup_ledger.specs.Sources.{sources_of};
 ghost use Rattle.tup_core.specs.Sound.{IsAcyclic};
 ghost use Rattle.tup_board.specs.Board.{BoardState, plan_of, state};
 ghost use Rattle.tup_board.specs.Sound.{IsSound};
-ghost use Rattle.tup_law_site.specs.Over.{IsKeptNow};
 ghost use Rattle.tup_law_phases.specs.Language.{tupfiles};
 ghost use Rattle.tup_promise.specs.Did.{ReadsWhatIsDue, RemovesWhatIsUnmade};
 ghost use Rattle.tup_promise.specs.Finished.{IsSettled, ExactlyTheFiles, IsFinished};

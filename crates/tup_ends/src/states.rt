@@ -1,5 +1,5 @@
 //! What an update makes of the states of owned paths.
-ghost use Rattle.std.specs.Prelude.{◌≡◌, ℕ, List, Some, IsTrue, slice_get};
+ghost use Rattle.std.specs.Prelude.{◌≡◌, ℕ, Some, IsTrue, slice_get};
 ghost use Rattle.std.specs.List.{IsDistinct};
 ghost use Rattle.tup_path.specs.Order.{same_path};
 ghost use Rattle.tup_site.specs.World.{World};

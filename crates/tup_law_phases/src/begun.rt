@@ -1,5 +1,5 @@
 //! That a project is kept once it has begun.
-ghost use Rattle.std.specs.Prelude.{◌≡◌, ℕ, List, [], ◌∷◌, ◌++◌};
+ghost use Rattle.std.specs.Prelude.{◌≡◌, List, [], ◌∷◌, ◌++◌};
 ghost use Rattle.tup_path.specs.Name.{Content};
 ghost use Rattle.tup_site.specs.World.{World};
 ghost use Rattle.tup_runner.specs.Next.{Next};

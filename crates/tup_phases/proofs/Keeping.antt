@@ -1,5 +1,5 @@
 -- What the phases keep of a site that was kept.
-use Rattle.std.proofs.Common.{◌≡◌, ℕ, ◌≤◌, List, [], Option, Some, All, Contains, IsTrue, true, false, sym, ap, subst, ◌∙◌, arith}
+use Rattle.std.proofs.Common.{◌≡◌, ℕ, ◌≤◌, List, Option, Some, All, Contains, IsTrue, true, false, sym, ap, subst, ◌∙◌, arith}
 use Rattle.std.specs.Prelude.{option_to_list}
 use Rattle.std.specs.FinMap as finite
 use Rattle.tup_path.specs.Name.{Names, Content}

@@ -13,7 +13,6 @@ use Rattle.tup_path.specs.Order.{by_names, by_names-total}
 use Rattle.tup_path.proofs.Same.{by_names-decides}
 use Rattle.tup_stamp.specs.declared.Stamp.{Stamp}
 use Rattle.tup_rule.specs.declared.rule.Rule.{Rule}
-use Rattle.tup_record.specs.declared.run.RunRecord.{RunRecord}
 use Rattle.tup_table.specs.Entries.{Standing, IsAscending}
 use Rattle.tup_graph.specs.declared.edit.Edit.{Edit}
 use Rattle.tup_graph.specs.Above.{AboveOver, IsAbove}

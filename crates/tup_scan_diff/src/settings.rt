@@ -1,5 +1,5 @@
 //! What tup.config sets.
-ghost use Rattle.std.specs.Prelude.{◌≡◌, ◌⊎◌, Ok, Err, IfOk, IfErr, MatchResult};
+ghost use Rattle.std.specs.Prelude.{◌≡◌, ◌⊎◌, Ok, Err, IfOk, IfErr};
 ghost use Rattle.std.specs.Bool.{Decides};
 ghost use Rattle.tup_vars.specs.Config.{config_of};
 ghost use Rattle.tup_scan_diff.specs.Settings.{AreSettings, SetsTo};

@@ -1,5 +1,5 @@
 -- What running the rules promises, where the graph was up to date before (own).
-use Rattle.std.specs.Prelude.{◌≡◌, ℕ, Bool, List, Option, None, IsTrue}
+use Rattle.std.specs.Prelude.{◌≡◌, ℕ, Bool, Option, None, IsTrue}
 use Rattle.tup_site.specs.declared.site.Site.{Ghosts as Site}
 use Rattle.tup_runner.specs.Next.{Next}
 use Rattle.tup_runner.specs.declared.runner.Runner.{Ghosts as Runner}

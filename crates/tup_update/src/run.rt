@@ -9,7 +9,6 @@ ghost use Rattle.tup_stored_graph.specs.Held.{is_fresh, StandsFor};
 ghost use Rattle.tup_core.specs.Run.{IsRun, claims};
 ghost use Rattle.tup_core.specs.Sound.{IsInRange};
 ghost use Rattle.tup_core.specs.Step.{opening};
-ghost use Rattle.tup_board.specs.Board.{plan_of};
 ghost use Rattle.tup_board.specs.Calls.{commands, opened_as};
 ghost use Rattle.tup_apart.specs.Run.{MayRun, OutputsOnce};
 ghost use Rattle.tup_promise.specs.Cause.{CrewCountedCause, CrewRunCause};

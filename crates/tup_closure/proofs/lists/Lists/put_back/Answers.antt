@@ -1,4 +1,4 @@
-use Rattle.std.proofs.Common.{Option, List, ap, sym, ◌∙◌}
+use Rattle.std.proofs.Common.{Option, List, ap, ◌∙◌}
 use Rattle.std.specs.BTreeMap.{get}
 use Rattle.tup_path.specs.Name.{Names}
 use Rattle.tup_path.specs.Order.{by_names}
