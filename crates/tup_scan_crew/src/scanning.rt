@@ -44,7 +44,7 @@ pub fn scan_by<W: Threads + Sync, S: Site, P: Pulse>(
     if found > MAX_FILES {
         return Err(ScanFault::TooManyFiles(found));
     }
-    let files = stamps_of(rt, alloc, site, paths.as_slice(), pulse, workers)?;
+    let files = stamps_of(rt, alloc, site, paths.into_vec(), pulse, workers)?;
     // Read behind its stamp: where somebody changes the file in between, the next scan sees another stamp.
     let config = site.get(alloc, &config_path(alloc)?)?;
     Ok(Seen { files, config })
@@ -55,17 +55,17 @@ fn stamps_of<W: Threads + Sync, S: Site, P: Pulse>(
     rt: &W,
     alloc: Global,
     site: &mut S,
-    paths: &[Path],
+    paths: Vec<Path>,
     pulse: &P,
     workers: usize,
 ) -> Result<Stamps, ScanFault>
-    requires few { length paths.now ≤ 65536 }
-    requires files { IsTrue S.tells → AreFiles (S.world site.old).tree paths.now }
-    ensures paths { IsTrue S.tells → IfOk result (λ files. map (λ file. file.0) files ≡ paths.now) }
+    requires few { length paths.items ≤ 65536 }
+    requires files { IsTrue S.tells → AreFiles (S.world site.old).tree paths.items }
+    ensures paths { IsTrue S.tells → IfOk result (λ files. map (λ file. file.0) files ≡ paths.items) }
     ensures stamps { IsTrue S.tells → IfOk result (AreStamped (S.world site.old).tree) }
     ensures few { IfOk result (λ files. length files ≤ 65536) }
     ensures small { IsTrue S.tells
-        → OnOk result (All (IsSmallAt (S.world site.old).tree) paths.now) }
+        → OnOk result (All (IsSmallAt (S.world site.old).tree) paths.items) }
 
     ensures above { IsAbove result }
     ensures named { IsTrue S.tells → IsOf (S.world site.old).tree result }
@@ -76,10 +76,12 @@ fn stamps_of<W: Threads + Sync, S: Site, P: Pulse>(
     ensures known { IsTrue S.tells → S.known site.new ≡ S.known site.old }
 {
     let mut batch = Batch::new(alloc);
-    for (place, path) in paths.iter().enumerate() {
-        if let Some(file) = read(alloc, site, path, place as u32)? {
+    let mut place = 0;
+    for path in paths {
+        if let Some(file) = read(alloc, site, path, place)? {
             batch.add(rt, alloc, file, pulse, workers)?;
         }
+        place += 1;
     }
     Ok(batch.finish(rt, alloc, pulse, workers)?)
 }
@@ -88,11 +90,11 @@ fn stamps_of<W: Threads + Sync, S: Site, P: Pulse>(
 fn read<S: Site>(
     alloc: Global,
     site: &mut S,
-    path: &Path,
+    path: Path,
     place: u32,
 ) -> Result<Option<File>, ScanFault>
-    ensures read { IsTrue S.tells → IfOk result (IsReadAt (S.world site.old).tree path.now) }
-    ensures small { IsTrue S.tells → OnOk result (IsSmallAt (S.world site.old).tree path.now) }
+    ensures read { IsTrue S.tells → IfOk result (IsReadAt (S.world site.old).tree path) }
+    ensures small { IsTrue S.tells → OnOk result (IsSmallAt (S.world site.old).tree path) }
 
     ensures above { IsAbove result }
     ensures named { IsTrue S.tells → IsOf (S.world site.old).tree result }
@@ -102,11 +104,11 @@ fn read<S: Site>(
     ensures crash { IsTrue S.tells → GoesOn S.moment S.left_since site.old site.new NoStep }
     ensures known { IsTrue S.tells → S.known site.new ≡ S.known site.old }
 {
-    let Some(content) = site.get(alloc, path)? else {
+    let Some(content) = site.get(alloc, &path)? else {
         return Ok(None);
     };
     Ok(Some(File {
-        path: path.clone()?,
+        path,
         place,
         content,
         stamp: Stamp([0; 32]),

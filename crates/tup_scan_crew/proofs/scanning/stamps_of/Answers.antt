@@ -1,42 +1,48 @@
-use Rattle.std.proofs.Common.{◌∙◌, ⊎_elim, IsTrue, arith, subst}
-use Rattle.std.proofs.lemmas.List.Elements.{All-more}
+use Rattle.std.proofs.Common.{◌≡◌, ◌∷◌, ◌∙◌, ⊎_elim, IsSome, IsTrue, ap, arith, length, subst}
+use Rattle.std.specs.FinMap as finite
+use Rattle.std.specs.Vec.Iter.{into_iter_items}
+use Rattle.std.proofs.lemmas.List.Elements.{All-cons, All-rest}
 use Rattle.tup_site.specs.World.{World}
+use Rattle.tup_path.specs.Name.{Names}
 use Rattle.tup_scan.specs.Cause.{IsSmallAt}
 use Rattle.tup_scan_crew.specs.Batch.{IsReadAt, stamps_so_far}
 use Rattle.tup_scan_crew.proofs.Ahead.{few_more, none_there, paths_more, stamped_more}
 use Rattle.tup_scan_crew.proofs.scanning.stamps_of.Goals as goal
-use Rattle.tup_scan_crew.proofs.scanning.stamps_of.Goals.{in-Some+in_ok-add, in_default}
+use Rattle.tup_scan_crew.proofs.scanning.stamps_of.Goals.{in-Some-2+in_ok-add, in_default}
 
-pub loop-place-preserved : goal.loop-place-preserved
-loop-place-preserved g c =
+pub loop-path-preserved : goal.loop-path-preserved
+loop-path-preserved g c =
     let tree = (g.S.Site.world c.args.site.now).tree in
-    let paths = c.args.paths.now in
-    let place = c.loop-place.place in
-    let path = c.index-paths-place.result in
-    let before = stamps_so_far c.loop-place.batch in
-    let so = c.loop-place.invariant in
+    let all = c.args.paths.items in
+    let left = into_iter_items c.loop-path.path-iterator in
+    let rest = into_iter_items c.next.new.self in
+    let path = c.in-Some.path in
+    let first : left ≡ path ∷ rest = c.in-Some.ensures.steps.0 in
+    let before = stamps_so_far c.loop-path.batch in
+    let so = c.loop-path.invariant in
     let read = λ (tells : IsTrue g.S.Site.tells). subst (λ (w : World). IsReadAt w.tree path c.in_ok-file.field-0) (so.same tells) (c.in_ok-file.ensures.read tells) in
     record {
       paths = λ tells. elim c.match-branch-2.branch [
-        | in-Some+in_ok-add w ↦
-            let there = subst (IsReadAt tree path) w.in-Some.is (read tells) in
-            rw w.batch-is (paths_more paths place path before (stamps_so_far w.add.new.self) w.in-Some.file (omega arith) c.index-paths-place.is there.0 w.in_ok-add.ensures (so.paths tells))
-        | in_default w ↦
-            absurd (none_there tree paths place path (c.requires.files tells) (omega arith) c.index-paths-place.is (subst (IsReadAt tree path) w.in_default.is (read tells)))
+        | in-Some-2+in_ok-add w ↦
+            let there = subst (IsReadAt tree path) w.in-Some-2.is (read tells) in
+            rw w.batch-is (paths_more all left rest path before (stamps_so_far w.add.new.self) w.in-Some-2.file first there.0 w.in_ok-add.ensures (so.paths tells))
+        | in_default w ↦ absurd (none_there tree left rest path first (so.files tells) (subst (IsReadAt tree path) w.in_default.is (read tells)))
       ];
+      files = λ tells. All-rest (λ (p : Names). IsSome (finite.get tree p)) path rest left first (so.files tells);
       stamps = λ tells. elim c.match-branch-2.branch [
-        | in-Some+in_ok-add w ↦
-            let there = subst (IsReadAt tree path) w.in-Some.is (read tells) in
-            rw w.batch-is (stamped_more tree path before (stamps_so_far w.add.new.self) w.in-Some.file there.0 there.1 w.in_ok-add.ensures (so.stamps tells))
+        | in-Some-2+in_ok-add w ↦
+            let there = subst (IsReadAt tree path) w.in-Some-2.is (read tells) in
+            rw w.batch-is (stamped_more tree path before (stamps_so_far w.add.new.self) w.in-Some-2.file there.0 there.1 w.in_ok-add.ensures (so.stamps tells))
         | in_default w ↦ rw w.batch-is (so.stamps tells)
       ];
+      count = omega (arith, so.count, ap length first);
       few = elim c.match-branch-2.branch [
-        | in-Some+in_ok-add w ↦ rw w.batch-is (few_more place before (stamps_so_far w.add.new.self) w.in-Some.file w.in_ok-add.ensures so.few)
+        | in-Some-2+in_ok-add w ↦ rw w.batch-is (few_more c.loop-path.place before (stamps_so_far w.add.new.self) w.in-Some-2.file w.in_ok-add.ensures so.few)
         | in_default w ↦ rw w.batch-is (omega (arith, so.few))
       ];
-      small = λ tells.
+      small = λ tells others.
           let here = subst (λ (w : World). IsSmallAt w.tree path) (so.same tells) (c.in_ok-file.ensures.small tells) in
-          All-more (IsSmallAt tree) paths place path (omega arith) (so.small tells) (subst (IsSmallAt tree) c.index-paths-place.is here);
+          so.small tells (rw first (All-cons (IsSmallAt tree) path rest here others));
       counted = c.read.ensures.cause.steady (λ e. cc (c.in_ok-file.was, e)) ∙ so.counted;
       same = λ tells. c.read.ensures.same tells ∙ so.same tells;
       crash = λ tells.
