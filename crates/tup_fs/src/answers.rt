@@ -71,16 +71,28 @@ impl Answers {
     }
 
     /// These are all files that there are. What was answered before still holds, as after the second time.
-    pub fn list(&mut self, files: Vec<Listed>) -> Result<(), Refused>
+    pub fn list(&mut self, alloc: Global, files: Vec<Listed>) -> Result<(), Refused>
         ensures keeps { StayKnown self.old self.new }
     {
         if self.is_listed {
             return Ok(());
         }
+        self.make_room(alloc, files.len())?;
         for file in files {
             self.add(file)?;
         }
         self.is_listed = true;
+        Ok(())
+    }
+
+    // Makes room for so many places at once, unless something is known of some.
+    fn make_room(&mut self, alloc: Global, count: usize) -> Result<(), Refused>
+        ensures keeps { StayKnown self.old self.new }
+        ensures list { self.new.is_listed ≡ self.old.is_listed }
+    {
+        if self.places.is_empty() {
+            self.places = HashMap::with_capacity(alloc, count)?;
+        }
         Ok(())
     }
 

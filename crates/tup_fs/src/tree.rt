@@ -36,7 +36,7 @@ impl Tree {
         ensures { IfOk result (λ files. IsSorted by_names files.items) }
     {
         let Listing { paths, places } = disk.files(&mut self.seen)?;
-        self.answers.list(places)?;
+        self.answers.list(disk.alloc, places)?;
         Ok(paths)
     }
 }
