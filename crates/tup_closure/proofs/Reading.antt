@@ -7,10 +7,8 @@ use Rattle.std.specs.FinMap.Entries.{below_all}
 use Rattle.std.specs.List.{AllByRecursion}
 use Rattle.std.specs.List.Sorted.{IsStrictlySortedBy}
 use Rattle.std.specs.Ordering.{nat_cmp, is_lt}
-use Rattle.std.specs.declared.cmp.Ordering.{Ordering}
-use Rattle.std.specs.declared.cmp.Ordering.TheVariants.{Less, Equal, Greater}
-use Rattle.std.proofs.Math.Dec.{T}
-use Rattle.std.proofs.lemmas.Bool.{and_parts, false≢true}
+use Rattle.std.specs.declared.cmp.Ordering.TheVariants.{Less}
+use Rattle.std.proofs.lemmas.Bool.{and_parts}
 use Rattle.std.proofs.lemmas.List.Elements.{All-contains, filter_passes}
 use Rattle.std.proofs.lemmas.List.Kept.{IsStrictlySortedBy-filter}
 use Rattle.tup_path.specs.Name.{Names}
@@ -20,20 +18,12 @@ use Rattle.tup_record.specs.declared.run.RunRecord.{RunRecord}
 use Rattle.tup_graph.specs.Above.{HasAsked}
 use Rattle.tup_graph.specs.Graph.{GraphState}
 use Rattle.tup_readers.proofs.Entries.{in_front, behind_front, front_or_behind, none_in}
+use Rattle.tup_readers.proofs.Passing.{holds, less_is}
 use Rattle.tup_closure.specs.Steps.{IsListOf, asked_in, has_asked, readers_of}
 use Rattle.tup_closure.proofs.Counting.{as_long}
 use Rattle.tup_closure.proofs.Members.{listed, number-decides}
 
 -- ---- the keys of a map are in order
-
-less_is : (r : Ordering) → is_lt r ≡ true → r ≡ Less
-less_is Less e = refl
-less_is Equal e = absurd (false≢true e)
-less_is Greater e = absurd (false≢true e)
-
-holds : (b : Bool) → T b → b ≡ true
-holds true t = refl
-holds false t = absurd t
 
 module _ {X : Type 0} where
   all_later : (k : ℕ) (es : List (ℕ × X)) → below_all nat_cmp k es ≡ true → AllByRecursion (λ y. nat_cmp k y ≡ Less) (map (λ e. e.0) es)

@@ -4,3 +4,4 @@ pub mod Keeping
 pub mod Asking
 pub mod Answering
 pub mod Suspecting
+pub mod Passing

@@ -13,12 +13,11 @@ use Rattle.tup_path.specs.Order.{by_names, by_names-antisymmetric, by_names-tota
 use Rattle.tup_stamp.specs.declared.Stamp.{Stamp}
 use Rattle.tup_record.specs.declared.run.RunRecord.{RunRecord}
 use Rattle.tup_readers.specs.Changes.{Adds, Takes}
-use Rattle.tup_readers.specs.Index.{AreUsers, IsUser}
+use Rattle.tup_graph.specs.Above.{HasAsked}
+use Rattle.tup_graph.specs.Graph.{GraphState}
+use Rattle.tup_readers.specs.Index.{HasWritten, IsUserIn}
 use Rattle.tup_readers.specs.Suspects.{AskedOther, HasAllOthers, HasOthersOf, IsAmong, Runs, Stamps, TellsOther, WroteOther}
-use Rattle.tup_readers.specs.Sets.{is_in}
-use Rattle.tup_readers.specs.declared.users.Users.{Users}
 use Rattle.tup_readers.proofs.Adding.{added_twice}
-use Rattle.tup_readers.proofs.Answering.{all_listed}
 use Rattle.tup_readers.proofs.Entries.{entry_found, exact-decides, none_in}
 use Rattle.tup_readers.proofs.Keeping.{none_some, some_same, true_false}
 
@@ -59,22 +58,22 @@ gone_elsewhere seen path q apart = finite.get-remove by_names-total seen path q 
     either true e = absurd (apart (same_path q path e))
     either false e = refl
 
-module _ (seen later : Stamps) (runs : Runs) (users : Users) (path : Names) (old new : BTreeSet ℕ) where
-  pub seen_moved : ((q : Names) → (q ≡ path → ⊥) → finite.get later q ≡ finite.get seen q) → AreUsers runs users → HasAllOthers seen runs old → Adds (IsUser users path) (IsAmong old) (IsAmong new) → HasAllOthers later runs new
-  seen_moved elsewhere are all added number run here other = elim other [ inl asks ↦ asked asks | inr wrote ↦ written wrote ]
+module _ (g : GraphState) (later : Stamps) (path : Names) (old new : BTreeSet ℕ) where
+  pub seen_moved : ((q : Names) → (q ≡ path → ⊥) → finite.get later q ≡ finite.get g.seen q) → HasAllOthers g.seen g.runs old → Adds (IsUserIn g path) (IsAmong old) (IsAmong new) → HasAllOthers later g.runs new
+  seen_moved elsewhere all added number run here other = elim other [ inl asks ↦ asked asks | inr wrote ↦ written wrote ]
     where
       asked : AskedOther later run.asks → IsAmong new number
       asked (q, given, in_it, differs) = either (eq_by_cmp by_names q path) refl
         where
           either : (b : Bool) → eq_by_cmp by_names q path ≡ b → IsAmong new number
-          either true e = (added number).1 (inr (inl ((are.0 (path, number)).1 (run, here, (q, given), in_it, same_path q path e))))
+          either true e = (added number).1 (inr (inl (run, given, here, subst (λ (p : Names). Contains run.asks (p, given)) (same_path q path e) in_it)))
           either false e = (added number).1 (inl (all number run here (inl (q, given, in_it, λ is. differs (is ∙ sym (elsewhere q (other_path q path e)))))))
 
       written : WroteOther later run.writes → IsAmong new number
       written (q, given, in_it, differs) = either (eq_by_cmp by_names q path) refl
         where
           either : (b : Bool) → eq_by_cmp by_names q path ≡ b → IsAmong new number
-          either true e = (added number).1 (inr (inr ((are.1 (path, number)).1 (run, here, (q, given), in_it, same_path q path e))))
+          either true e = (added number).1 (inr (inr (run, given, here, subst (λ (p : Names). Contains run.writes (p, given)) (same_path q path e) in_it)))
           either false e = (added number).1 (inl (all number run here (inr (q, given, in_it, λ is. differs (is ∙ sym (elsewhere q (other_path q path e)))))))
 
 -- ---- a record goes, or comes
@@ -136,18 +135,13 @@ number_added list number = added_twice both
       ],
     )
 
--- those of a set, if there is one
-member : (set : BTreeSet ℕ) (n : ℕ) → Contains set.keys n ↔ (is_in nat_cmp (Some set) n ≡ true)
-member set n = all_listed nat_cmp nat_cmp_total nat_cmp-IsAntisymmetric set.keys (Some set) refl n
-
-pub set_added : {Old New : ℕ → Type 0} → (found : Option (BTreeSet ℕ)) (set : BTreeSet ℕ) → found ≡ Some set → Adds (Contains set.keys) Old New → Adds (λ n. is_in nat_cmp found n ≡ true) Old New
-set_added {Old} {New} found set is added n = subst (λ (o : Option (BTreeSet ℕ)). New n ↔ (Old n ⊎ (is_in nat_cmp o n ≡ true))) (sym is) (
-  λ now. elim ((added n).0 now) [ inl old ↦ inl old | inr h ↦ inr ((member set n).0 h) ],
-  λ e. elim e [ inl old ↦ (added n).1 (inl old) | inr h ↦ (added n).1 (inr ((member set n).1 h)) ],
-)
-
-pub none_added : (Old : ℕ → Type 0) (found : Option (BTreeSet ℕ)) → found ≡ None → Adds (λ n. is_in nat_cmp found n ≡ true) Old Old
-none_added Old found is n = (
-  λ now. inl now,
-  λ e. elim e [ inl old ↦ old | inr h ↦ absurd (true_false (sym h ∙ ap (λ (o : Option (BTreeSet ℕ)). is_in nat_cmp o n) is)) ],
-)
+-- those who read a path, and those who wrote it
+pub users_added : {Old Mid New : ℕ → Type 0} (g : GraphState) (path : Names) (readers writers : List ℕ) → ((n : ℕ) → Contains readers n ↔ HasAsked g n path) → ((n : ℕ) → Contains writers n ↔ HasWritten g n path)
+    → Adds (Contains readers) Old Mid → Adds (Contains writers) Mid New → Adds (IsUserIn g path) Old New
+users_added g path readers writers asked written = added_twice both
+  where
+    both : (n : ℕ) → IsUserIn g path n ↔ (Contains readers n ⊎ Contains writers n)
+    both n = (
+      λ user. elim user [ inl asks ↦ inl ((asked n).1 asks) | inr wrote ↦ inr ((written n).1 wrote) ],
+      λ e. elim e [ inl h ↦ inl ((asked n).0 h) | inr h ↦ inr ((written n).0 h) ],
+    )

@@ -12,6 +12,7 @@ use Rattle.tup_rule.specs.declared.question.Question.{Question}
 use Rattle.tup_rule.specs.declared.question.Question.TheVariants as asks
 use Rattle.tup_rule.specs.declared.question.Reading.{Reading}
 use Rattle.tup_record.specs.declared.run.RunRecord.{RunRecord}
+use Rattle.tup_graph.specs.Above.{HasAsked}
 use Rattle.tup_graph.specs.Graph.{GraphState}
 use Rattle.tup_readers.specs.Records.{AreIn}
 use Rattle.tup_readers.specs.Sets.{Has, is_in}
@@ -25,6 +26,10 @@ HasQuestioned g dir question = (reading : Reading) × (told : Noted) × (finite.
 -- the record of a rule wrote a path
 abbrev pub HasWritten : GraphState → ℕ → Names → Type 0
 HasWritten g number path = (run : RunRecord) × (given : Stamp) × (finite.get g.runs number ≡ Some run) × Contains run.writes (path, given)
+
+-- the record of a rule asks a path, or wrote it
+abbrev pub IsUserIn : GraphState → Names → ℕ → Type 0
+IsUserIn g path number = HasAsked g number path ⊎ HasWritten g number path
 
 -- what a run's record asks and what it wrote, and the path of either
 abbrev pub asks_of : RunRecord → List (Names × Option Stamp)
@@ -45,10 +50,6 @@ HasReader users = Has by_names nat_cmp users.readers
 -- a rule is among the writers of a path
 abbrev pub HasWriter : Users → Names × ℕ → Type 0
 HasWriter users = Has by_names nat_cmp users.writers
-
--- among either
-abbrev pub IsUser : Users → Names → ℕ → Type 0
-IsUser users path number = HasReader users (path, number) ⊎ HasWriter users (path, number)
 
 -- just the rules whose records ask a path are its readers
 abbrev pub AreReaders : finite.FinMap nat_cmp RunRecord → Users → Type 0

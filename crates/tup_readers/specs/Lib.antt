@@ -4,3 +4,4 @@ pub mod Sets
 pub mod Records
 pub mod Index
 pub mod Suspects
+pub mod Passes

@@ -1,16 +1,17 @@
 //! A graph in memory that knows who asked what.
-ghost use Rattle.std.specs.Prelude.{◌≡◌, ◌↔◌, ℕ, Contains, IfErr, IfOk, IfSome, OnErr, OnOk};
+ghost use Rattle.std.specs.Prelude.{◌≡◌, ◌↔◌, ℕ, Contains, IfErr, IfOk, OnErr, OnOk};
 ghost use Rattle.std.specs.List.Sorted.{IsStrictlySortedBy};
 ghost use Rattle.std.specs.Ordering.{nat_cmp};
 ghost use Rattle.tup_graph.specs.Above.{HasAsked};
 ghost use Rattle.tup_graph.specs.Edits.{edited, edited_by};
 ghost use Rattle.tup_graph.specs.Graph.{empty_graph};
-ghost use Rattle.tup_readers.specs.Index.{AreUsers, HasQuestioned, HasWritten};
+ghost use Rattle.tup_readers.specs.Index.{HasQuestioned, HasWritten};
 ghost use Rattle.tup_readers.specs.Suspects.{HasAllOthers};
 ghost use Rattle.tup_path.specs.Name.{Names};
 ghost use Rattle.tup_path.specs.Order.{by_names};
 
 use crate::askers::Askers;
+use crate::maps;
 use crate::suspects::Suspects;
 use crate::users::Users;
 use std::alloc::{AllocError, Global};
@@ -21,14 +22,16 @@ use tup_graph::{Edit, Edits, GraphFault, Nodes};
 use tup_path::{Items, Path};
 use tup_rule::Question;
 
-/// The nodes of a graph with the maps from each path to the rules whose records ask or wrote it, and with the rules whose
-/// records may no longer tell what is seen. Contracts see the nodes; the rest is always what their records give.
+/// The nodes of a graph, where it is worth it with maps from each path to the rules whose records ask or wrote it, and with the
+/// rules whose records may no longer tell what is seen. Contracts see the nodes; the rest is always what their records give.
 #[derive(Drop)]
 pub struct Indexed {
     nodes: Nodes,
-    /// The maps, once something was edited or `know_users` was called: an update with nothing to do needs none.
+    /// The maps, once they are worth their making, or `know_users` was called: an update that edits few files needs none.
     users: Option<Users>,
     suspects: Suspects,
+    /// How many passes over the records edits took while there were no maps.
+    passes: u32,
 }
 
 impl Model for Indexed {
@@ -55,8 +58,9 @@ impl Indexed {
     {
         Indexed {
             nodes: Nodes::empty(alloc),
-            users: Some(Users::new(alloc)),
+            users: None,
             suspects: Suspects::new(alloc),
+            passes: 0,
         }
     }
 
@@ -71,6 +75,7 @@ impl Indexed {
             nodes,
             users: None,
             suspects,
+            passes: 0,
         })
     }
 
@@ -86,6 +91,11 @@ impl Indexed {
         let users = Users::of_nodes(alloc, &self.nodes)?;
         self.users = Some(users);
         Ok(())
+    }
+
+    /// Whether the maps are made.
+    pub(crate) fn knows_users(&self) -> bool {
+        self.users.is_some()
     }
 
     /// The nodes.
@@ -109,10 +119,8 @@ impl Indexed {
         ensures ascending { IfOk result (λ numbers. IsStrictlySortedBy nat_cmp numbers.items) }
         ensures memory { IfErr result (λ fault. fault ≡ GraphFault.Memory) }
     {
-        match &self.users {
-            Some(users) => Ok(users.readers_of(alloc, path)?),
-            None => Ok(Users::find_readers(alloc, &self.nodes, path)?),
-        }
+        let numbers = maps::readers_of(alloc, &self.nodes, &self.users, path)?;
+        Ok(numbers)
     }
 
     /// The rules whose records wrote a path, in ascending order. Where the maps aren't made it goes through all records.
@@ -122,10 +130,8 @@ impl Indexed {
         ensures ascending { IfOk result (λ numbers. IsStrictlySortedBy nat_cmp numbers.items) }
         ensures memory { IfErr result (λ fault. fault ≡ GraphFault.Memory) }
     {
-        match &self.users {
-            Some(users) => Ok(users.writers_of(alloc, path)?),
-            None => Ok(Users::find_writers(alloc, &self.nodes, path)?),
-        }
+        let numbers = maps::writers_of(alloc, &self.nodes, &self.users, path)?;
+        Ok(numbers)
     }
 
     /// The folders whose readings asked a question, in the order of paths. It goes through all readings.
@@ -165,7 +171,7 @@ impl Indexed {
         Ok(after)
     }
 
-    /// What an edit leaves.
+    /// What an edit leaves. It makes the maps where few passes over the records were not enough.
     fn edited(self, alloc: Global, edit: Edit) -> Result<Indexed, GraphFault>
         ensures ok { IfOk result (λ after. after ≡ edited self edit) }
         ensures err { IfErr result (λ fault. fault ≡ GraphFault.Memory) }
@@ -174,30 +180,30 @@ impl Indexed {
             mut nodes,
             users,
             mut suspects,
+            passes,
         } = self;
-        let mut users = known(alloc, &nodes, users)?;
-        suspects.edit(&nodes, &users, &edit)?;
-        users.edit(alloc, &nodes, &edit)?;
+        let made = maps::before_edit(alloc, &nodes, users, &edit, passes)?;
+        suspects.edit(alloc, &nodes, &made, &edit)?;
+        let later = maps::after_edit(alloc, &nodes, made, &edit)?;
+        let passes = passes_after(passes, &edit);
         let mut edits = Items::new(alloc);
         edits.push(edit)?;
         nodes.edit_all(alloc, edits)?;
         Ok(Indexed {
             nodes,
-            users: Some(users),
+            users: later,
             suspects,
+            passes,
         })
     }
 }
 
-/// The users of all paths, which are made if they aren't given.
-fn known(alloc: Global, nodes: &Nodes, users: Option<Users>) -> Result<Users, AllocError>
-    requires { IfSome users (AreUsers nodes.now.runs) }
-    ensures { IfOk result (AreUsers nodes.now.runs) }
-{
-    match users {
-        Some(users) => Ok(users),
-        None => Users::of_nodes(alloc, nodes),
+/// The passes after an edit, which takes one for those who read a file and one for those who wrote it.
+fn passes_after(passes: u32, edit: &Edit) -> u32 {
+    if maps::asks_for_users(edit) {
+        return passes.saturating_add(2);
     }
+    passes
 }
 
 /// The paths of a set, in their order.

@@ -1,16 +1,14 @@
 //! Rules whose records may no longer tell what is seen.
-ghost use Rattle.std.specs.Prelude.{◌≡◌, true, Contains, IfOk, OnOk};
+ghost use Rattle.std.specs.Prelude.{◌≡◌, Contains, IfOk, IfSome, OnOk};
 ghost use Rattle.std.specs.Bool.{Decides};
 ghost use Rattle.std.specs.FinMap as finite;
-ghost use Rattle.std.specs.Option.{option_copied};
-ghost use Rattle.std.specs.Ordering.{nat_cmp};
 ghost use Rattle.tup_graph.specs.Edits.{edited, without};
 ghost use Rattle.tup_graph.specs.Opening.{put as put_of};
 ghost use Rattle.tup_readers.specs.Changes.{Adds, Takes};
-ghost use Rattle.tup_readers.specs.Index.{AreUsers, IsUser};
-ghost use Rattle.tup_readers.specs.Sets.{is_in};
+ghost use Rattle.tup_readers.specs.Index.{AreUsers, IsUserIn};
 ghost use Rattle.tup_readers.specs.Suspects.{AreSuspects, AskedOther, IsAmong, TellsOther, WroteOther};
 
+use crate::maps;
 use crate::users::Users;
 use std::alloc::{AllocError, Global};
 use std::collections::BTreeSet;
@@ -46,47 +44,61 @@ impl Suspects {
         Ok(suspects)
     }
 
-    /// Takes in what an edit does to a graph, which is given as it is before, with the users of its paths.
+    /// Takes in what an edit does to a graph, which is given as it is before, with the users of its paths, where these are
+    /// known. An edit by which a file is seen otherwise goes through all records where they aren't.
     pub(crate) fn edit(
         &mut self,
+        alloc: Global,
         nodes: &Nodes,
-        users: &Users,
+        users: &Option<Users>,
         edit: &Edit,
     ) -> Result<(), AllocError>
         requires suspects { AreSuspects nodes.now.seen nodes.now.runs self.old }
-        requires users { AreUsers nodes.now.runs users.now }
+        requires users { IfSome users.now (AreUsers nodes.now.runs) }
         ensures { OnOk result (AreSuspects (edited nodes.now edit.now).seen
             (edited nodes.now edit.now).runs self.new) }
     {
         match edit {
-            Edit::Put(found) => self.put(nodes, users, found),
-            Edit::Remove(gone) => self.leave_out(nodes, users, gone),
+            Edit::Put(found) => self.put(alloc, nodes, users, found),
+            Edit::Remove(gone) => self.leave_out(alloc, nodes, users, gone),
         }
     }
 
     /// Takes in that a record stands, in the place of the one that stood under its key.
-    fn put(&mut self, nodes: &Nodes, users: &Users, found: &Record) -> Result<(), AllocError>
+    fn put(
+        &mut self,
+        alloc: Global,
+        nodes: &Nodes,
+        users: &Option<Users>,
+        found: &Record,
+    ) -> Result<(), AllocError>
         requires suspects { AreSuspects nodes.now.seen nodes.now.runs self.old }
-        requires users { AreUsers nodes.now.runs users.now }
+        requires users { IfSome users.now (AreUsers nodes.now.runs) }
         ensures { OnOk result (AreSuspects (put_of nodes.now found.now).seen
             (put_of nodes.now found.now).runs self.new) }
     {
         match found {
-            Record::Seen { path, .. } => self.add_users(users, path),
+            Record::Seen { path, .. } => self.add_users(alloc, nodes, users, path),
             Record::Run { number, run } => self.renew(nodes, *number, run),
             _ => Ok(()),
         }
     }
 
     /// Takes in that what stands under the key of a record goes.
-    fn leave_out(&mut self, nodes: &Nodes, users: &Users, gone: &Record) -> Result<(), AllocError>
+    fn leave_out(
+        &mut self,
+        alloc: Global,
+        nodes: &Nodes,
+        users: &Option<Users>,
+        gone: &Record,
+    ) -> Result<(), AllocError>
         requires suspects { AreSuspects nodes.now.seen nodes.now.runs self.old }
-        requires users { AreUsers nodes.now.runs users.now }
+        requires users { IfSome users.now (AreUsers nodes.now.runs) }
         ensures { OnOk result (AreSuspects (without nodes.now gone.now).seen
             (without nodes.now gone.now).runs self.new) }
     {
         match gone {
-            Record::Seen { path, .. } => self.add_users(users, path),
+            Record::Seen { path, .. } => self.add_users(alloc, nodes, users, path),
             Record::Run { number, .. } => {
                 self.acquit(nodes, *number);
                 Ok(())
@@ -125,32 +137,29 @@ impl Suspects {
     }
 
     /// Adds the rules whose records ask or wrote a path.
-    fn add_users(&mut self, users: &Users, path: &Path) -> Result<(), AllocError>
-        ensures { OnOk result (Adds (IsUser users.now path.now)
+    fn add_users(
+        &mut self,
+        alloc: Global,
+        nodes: &Nodes,
+        users: &Option<Users>,
+        path: &Path,
+    ) -> Result<(), AllocError>
+        requires { IfSome users.now (AreUsers nodes.now.runs) }
+        ensures { OnOk result (Adds (IsUserIn nodes.now path.now)
             (IsAmong self.old.numbers) (IsAmong self.new.numbers)) }
     {
-        self.add_all(users.readers(path))?;
-        self.add_all(users.writers(path))
+        let readers = maps::readers_of(alloc, nodes, users, path)?;
+        self.add_all(&readers)?;
+        let writers = maps::writers_of(alloc, nodes, users, path)?;
+        self.add_all(&writers)
     }
 
-    /// Adds the rules of a set, if there is one.
-    fn add_all(&mut self, numbers: Option<&BTreeSet<u32>>) -> Result<(), AllocError>
-        ensures { OnOk result
-            (Adds (λ number. is_in nat_cmp (option_copied numbers.entry) number ≡ true)
+    /// Adds some rules.
+    fn add_all(&mut self, numbers: &[u32]) -> Result<(), AllocError>
+        ensures { OnOk result (Adds (Contains numbers.now)
             (IsAmong self.old.numbers) (IsAmong self.new.numbers)) }
     {
-        match numbers {
-            Some(set) => self.add_set(set),
-            None => Ok(()),
-        }
-    }
-
-    /// Adds the rules of a set.
-    fn add_set(&mut self, set: &BTreeSet<u32>) -> Result<(), AllocError>
-        ensures { OnOk result (Adds (Contains set.now.keys)
-            (IsAmong self.old.numbers) (IsAmong self.new.numbers)) }
-    {
-        for number in set {
+        for number in numbers {
             self.add(*number)?;
         }
         Ok(())

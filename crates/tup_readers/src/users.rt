@@ -85,34 +85,6 @@ impl Users {
         listed(alloc, self.writers(path))
     }
 
-    /// The rules whose records ask a path, in ascending order, in one pass over the records of runs.
-    pub(crate) fn find_readers(
-        alloc: Global,
-        nodes: &Nodes,
-        path: &Path,
-    ) -> Result<Vec<u32>, AllocError>
-        ensures readers { IfOk result (λ numbers. (number : ℕ)
-            → Contains numbers.items number ↔ HasAsked nodes.now number path.now) }
-        ensures ascending { IfOk result (λ numbers. IsStrictlySortedBy nat_cmp numbers.items) }
-    {
-        let users = Users::of_nodes(alloc, nodes)?;
-        users.readers_of(alloc, path)
-    }
-
-    /// The rules whose records wrote a path, in ascending order, in one pass over the records of runs.
-    pub(crate) fn find_writers(
-        alloc: Global,
-        nodes: &Nodes,
-        path: &Path,
-    ) -> Result<Vec<u32>, AllocError>
-        ensures writers { IfOk result (λ numbers. (number : ℕ)
-            → Contains numbers.items number ↔ HasWritten nodes.now number path.now) }
-        ensures ascending { IfOk result (λ numbers. IsStrictlySortedBy nat_cmp numbers.items) }
-    {
-        let users = Users::of_nodes(alloc, nodes)?;
-        users.writers_of(alloc, path)
-    }
-
     /// Takes in what an edit does to the records of a graph, which is given as it is before. It looks at what the record
     /// of the edit asks and wrote, and at what the one in its place did.
     pub(crate) fn edit(

@@ -5,22 +5,33 @@ ghost use Rattle.tup_closure.specs.Steps.{HasStepped, HasSteppedAtMost};
 ghost use Rattle.tup_scan_diff.specs.Edits.{AreScanEdits, BeginsScan};
 
 use crate::present::Present;
-use crate::stamps::sees_all;
+use crate::stamps::sees_more_otherwise;
 use std::alloc::Global;
 use std::sync::ledger::Ledger;
 use tup_closure::Steps;
-use tup_graph::{Edits, GraphFault};
+use tup_graph::{Edits, GraphFault, Nodes};
 use tup_readers::Indexed;
 use tup_scan::Seen;
 
-/// Whether `note_scan` asks who uses a path: a file is seen otherwise, or a rule is flagged or may have been touched before.
-/// Then the maps of the graph had better be there.
+/// So many files are asked about by passes over the records.
+const FEW: usize = 8;
+
+/// Whether `note_scan` asks again and again who uses a path: more than a few files are seen otherwise, or more than a few rules
+/// are flagged or may have been touched before. Then the maps of the graph had better be there.
 pub fn asks_for_users(graph: &Indexed, seen: &Seen) -> bool {
-    let mut flags = graph.nodes().flags();
-    if flags.next().is_some() || !graph.suspects().is_empty() {
+    if graph.suspects().len() > FEW || flags_more(graph.nodes(), FEW) {
         return true;
     }
-    !sees_all(graph.nodes(), seen.files.as_slice())
+    sees_more_otherwise(graph.nodes(), seen.files.as_slice(), FEW)
+}
+
+/// Whether more than so many rules are flagged.
+fn flags_more(nodes: &Nodes, few: usize) -> bool {
+    let mut flagged: usize = 0;
+    for _ in nodes.flags() {
+        flagged = flagged.saturating_add(1);
+    }
+    flagged > few
 }
 
 /// What taking note of a scan does to a graph: files are seen with the stamps that the scan found, and no others are;

@@ -75,15 +75,20 @@ fn edited(
     }
 }
 
-/// Whether a graph has seen just these files, in the same order, with these stamps.
-pub(crate) fn sees_all(nodes: &Nodes, files: &[(Path, Stamp)]) -> bool {
+/// Whether more than so many files are seen otherwise than in these files, or about so many are lost. A file that stands at its
+/// place among those that were seen takes no look-up.
+pub(crate) fn sees_more_otherwise(nodes: &Nodes, files: &[(Path, Stamp)], few: usize) -> bool {
     let mut left = nodes.files();
+    let mut others: usize = 0;
     for (path, stamp) in files {
-        if seen_there(left.next(), path) != Some(*stamp) {
-            return false;
+        if seen_there(left.next(), path) != Some(*stamp) && nodes.seen(path) != Some(*stamp) {
+            others = others.saturating_add(1);
         }
     }
-    left.next().is_none()
+    for _ in left {
+        others = others.saturating_add(1);
+    }
+    others > few
 }
 
 /// The stamp of a file that was seen, if it is the one at this path.

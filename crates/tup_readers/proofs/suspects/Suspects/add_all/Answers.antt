@@ -1,12 +1,18 @@
-use Rattle.std.proofs.Common.{ap}
-use Rattle.std.specs.Option.{option_copied}
-use Rattle.std.proofs.lemmas.Result.{on_ok_weaker}
+use Rattle.std.proofs.Common.{List, ℕ, slice_index, sym, subst, take}
+use Rattle.std.specs.Prelude.{Contains}
+use Rattle.std.proofs.lemmas.List.{take_more}
+use Rattle.tup_readers.specs.Changes.{Adds}
 use Rattle.tup_readers.specs.Suspects.{IsAmong}
-use Rattle.tup_readers.proofs.Suspecting.{none_added, set_added}
+use Rattle.tup_readers.proofs.Suspecting.{no_numbers, number_added}
 use Rattle.tup_readers.proofs.suspects.Suspects.add_all.Goals as goal
 
-pub returns-in-Some : goal.returns-in-Some
-returns-in-Some c = on_ok_weaker c.add_set.result (set_added (option_copied c.args.numbers) c.in-Some.set.now (ap option_copied c.in-Some.is)) c.add_set.ensures
+pub loop-number-init : goal.loop-number-init
+loop-number-init c = no_numbers (IsAmong c.args.self.now.numbers)
 
-pub returns-in-None : goal.returns-in-None
-returns-in-None c = none_added (IsAmong c.args.self.now.numbers) (option_copied c.args.numbers) (ap option_copied c.in-None.is)
+pub loop-number-preserved : goal.loop-number-preserved
+loop-number-preserved c =
+    let numbers = c.args.numbers.now in
+    let at = c.loop-number.number-index in
+    let number = slice_index numbers at in
+    subst (λ (l : List ℕ). Adds (Contains l) (IsAmong c.args.self.now.numbers) (IsAmong c.add.new.self.numbers)) (sym (take_more numbers at 0 c.loop-number-test.true))
+    (number_added (take at numbers) number c.loop-number.invariant c.in_ok-add.ensures)

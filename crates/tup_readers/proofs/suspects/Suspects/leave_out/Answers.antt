@@ -13,5 +13,5 @@ returns-in-Seen c =
     let g = c.args.nodes.now in
     subst (λ (r : Record). OnOk c.add_users.result (AreSuspects (without g r).seen (without g r).runs c.add_users.new.self)) (sym c.in-Seen.is)
     (on_ok_weaker c.add_users.result
-    (seen_moved g.seen (finite.remove g.seen c.in-Seen.path) g.runs c.args.users.now c.in-Seen.path c.args.self.now.numbers c.add_users.new.self.numbers
-    (gone_elsewhere g.seen c.in-Seen.path) c.requires.users c.requires.suspects) c.add_users.ensures)
+    (seen_moved g (finite.remove g.seen c.in-Seen.path) c.in-Seen.path c.args.self.now.numbers c.add_users.new.self.numbers
+    (gone_elsewhere g.seen c.in-Seen.path) c.requires.suspects) c.add_users.ensures)
