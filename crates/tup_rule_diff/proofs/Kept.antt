@@ -1,6 +1,6 @@
 -- The records and the flags that rules keep, and the rules that are to be run.
-use Rattle.std.specs.Prelude.{◌≡◌, ◌⊎◌, ◌↔◌, ℕ, Bool, true, false, List, [], ◌∷◌, ◌++◌, Option, None, Some, Contains, is_none, length, map, option_map, option_to_list, slice_get, unwrap_or, if◌then◌else◌}
-use Rattle.std.proofs.Common.{refl, sym, ap, subst, ◌∙◌, inl, inr}
+use Rattle.std.specs.Prelude.{◌≡◌, ◌⊎◌, ◌↔◌, ℕ, zero, suc, Bool, true, false, List, [], ◌∷◌, ◌++◌, Option, None, Some, Contains, is_none, length, map, option_map, option_to_list, slice_get, unwrap_or, if◌then◌else◌}
+use Rattle.std.proofs.Common.{refl, sym, ap, subst, ◌∙◌, inl, inr, arith}
 use Rattle.std.specs.Ordering.{nat_cmp}
 use Rattle.std.specs.Cmp.{nat_cmp_total}
 use Rattle.std.specs.FinMap as finite
@@ -14,19 +14,21 @@ use Rattle.tup_rule.specs.declared.question.Reading.{Reading}
 use Rattle.tup_rule.proofs.Laws.{among-decides}
 use Rattle.tup_record.specs.declared.run.RunRecord.{RunRecord}
 use Rattle.tup_graph.specs.declared.edit.Edit.{Edit}
-use Rattle.tup_graph.specs.Above.{IsAbove}
+use Rattle.tup_graph.specs.Above.{AboveOver, IsAbove}
 use Rattle.tup_graph.specs.Graph.{GraphState, is_rule, is_flagged}
 use Rattle.tup_graph.specs.Swap.{WasAt, IsNew, IsFlaggedYet, ReadsNew}
 use Rattle.tup_graph.specs.Transactions.{flag_edits}
 use Rattle.tup_readers.proofs.Entries.{in_front, none_in, front_or_behind}
 use Rattle.tup_closure.specs.Readers.{AreRunsOfRules}
 use Rattle.tup_closure.proofs.Members.{number-decides}
+use Rattle.tup_closure.specs.Steps.{HasStepped}
 use Rattle.tup_closure.proofs.Stepping.{above_as}
+use Rattle.tup_closure.proofs.Walking.{no_order}
 use Rattle.tup_rule_diff.specs.Before.{AreNumbersBefore, IsNumberBefore}
 use Rattle.tup_rule_diff.specs.Edits.{AreSwapEdits, IsRunNow, IsToRun, clear_edits, led_by, less_edits, more_edits, own_so, reading_edits, run_so}
 use Rattle.tup_rule_diff.specs.Numbered.{numbered}
 use Rattle.tup_rule_diff.specs.Owners.{AreOwned}
-use Rattle.tup_rule_diff.specs.Running.{ReadsOneNew, flag_at, is_new_at, run_at, was_flagged}
+use Rattle.tup_rule_diff.specs.Running.{NoneReadsNew, ReadsOneNew, flag_at, is_new_at, run_at, was_flagged}
 use Rattle.tup_rule_diff.proofs.Leaving.{Owners, led_graph, led_is}
 use Rattle.tup_rule_diff.proofs.Looked.{before_of, rule_of}
 use Rattle.tup_rule_diff.proofs.Numbered.{had_at, is_had_at}
@@ -126,6 +128,28 @@ module _ (g : GraphState) (rules : List Rule) (befores : List (Option ℕ)) (are
 
     pub reads_from : (number : ℕ) → ReadsNew g led number → ReadsOneNew led befores number
     reads_from number (i, rule, here, new, (path, asked, wrote)) = (i, rule, here, (is_new_from i rule here new, (path, (among-decides path rule.outputs).0 wrote, asked)))
+
+    -- ---- no record asks an output of a new rule
+    module _ (none : NoneReadsNew led befores) where
+      none_over : (steps number : ℕ) → AboveOver steps led (ReadsNew g led) number → ⊥
+      none_over zero number root = none number (reads_from number root)
+      none_over (suc steps) number (before, maker, over, here, read) = none_over steps before over
+
+      pub kept_are : (flags : List ℕ) → flags ≡ numbered (flag_at g) 0 befores → (n : ℕ) → Contains flags n ↔ IsToRun g led n
+      kept_are flags is n = (λ h. inl (flag_to n (subst (λ (l : List ℕ). Contains l n) is h)), λ to. subst (λ (l : List ℕ). Contains l n) (sym is) (from to))
+        where
+          from : IsToRun g led n → Contains (numbered (flag_at g) 0 befores) n
+          from (inl yet) = flag_from n yet
+          from (inr up) = absurd (none_over up.0 n up.1)
+
+      pub kept_stepped : (steps : ℕ) → HasStepped led (ReadsNew g led) steps steps
+      kept_stepped steps = record {
+        roots = [];
+        reached = [];
+        are_roots = record { ascending = no_order [] refl; members = λ n. (λ h. absurd (none_in n h), λ root. absurd (none n (reads_from n root))) };
+        are_above = record { ascending = no_order [] refl; members = λ n. (λ h. absurd (none_in n h), λ up. absurd (none_over up.0 n up.1)) };
+        steps = omega arith;
+      }
 
     module _ (runs : AreRunsOfRules led) where
       pub is_root : (number : ℕ) → ReadsOneNew led befores number → is_rule led number ≡ true

@@ -8,5 +8,6 @@ mod Looked
 mod Owning
 mod Reading
 mod Kept
+mod Asking
 mod Placing
 pub mod Led

@@ -6,6 +6,7 @@
 //! that a table that takes them stands for that graph.
 #![tactic(auto)]
 
+mod asked;
 mod before;
 mod clearing;
 mod laws;

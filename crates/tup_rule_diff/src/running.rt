@@ -10,6 +10,7 @@ ghost use Rattle.tup_rule_diff.specs.Edits.{IsToRun, led_by};
 ghost use Rattle.tup_rule_diff.specs.Numbered.{numbered};
 ghost use Rattle.tup_rule_diff.specs.Running.{ReadsIfNew, ReadsOneNew, flag_at, is_new_at, run_at, was_flagged};
 
+use crate::asked::asks_new;
 use crate::before::number_of;
 use crate::putting::{push_more, push_runs};
 use std::alloc::Global;
@@ -104,8 +105,49 @@ fn makes_many(rules: &[Rule], befores: &[Option<u32>]) -> bool {
     outputs > FEW
 }
 
-/// The rules that are to be run, where these are the rules now, and these the records that they keep.
+/// The rules that are to be run, where these are the rules now, and these the records that they keep. Where no record asks
+/// an output of a new rule, nobody is to be run for what it reads, and no graph of them is made.
 pub(crate) fn flags_now<L: Ledger>(
+    alloc: Global,
+    nodes: &Nodes,
+    rules: &[Rule],
+    runs: &[(u32, RunRecord)],
+    befores: &[Option<u32>],
+    steps: &mut Steps<L>,
+) -> Result<Items<u32>, GraphFault>
+    requires befores { AreNumbersBefore nodes.now (led_by rules.now runs.now).rules befores.now }
+    requires runs { AreRunsOfRules (led_by rules.now runs.now) }
+    ensures flags { IfOk result (λ flags. (number : ℕ)
+        → Contains flags number ↔ IsToRun nodes.now (led_by rules.now runs.now) number) }
+    ensures steps { OnOk result (HasStepped (led_by rules.now runs.now)
+        (ReadsNew nodes.now (led_by rules.now runs.now)) steps.old steps.new) }
+    ensures fewer { OnErr result (HasSteppedAtMost (led_by rules.now runs.now)
+        (ReadsNew nodes.now (led_by rules.now runs.now)) steps.old steps.new) }
+    ensures memory { IfErr result (λ fault. fault ≡ GraphFault.Memory) }
+{
+    let asked = asks_new(alloc, rules, runs, befores)?;
+    if asked {
+        return flags_led(alloc, nodes, rules, runs, befores, steps);
+    }
+    flags_kept(alloc, nodes, befores)
+}
+
+/// The rules that are new, and those that were flagged.
+fn flags_kept(
+    alloc: Global,
+    nodes: &Nodes,
+    befores: &[Option<u32>],
+) -> Result<Items<u32>, GraphFault>
+    ensures flags { IfOk result (λ flags. flags ≡ numbered (flag_at nodes.now) 0 befores.now) }
+    ensures memory { IfErr result (λ fault. fault ≡ GraphFault.Memory) }
+{
+    let mut flags = Items::new(alloc);
+    push_flagged(&mut flags, nodes, befores)?;
+    Ok(flags)
+}
+
+/// The same, where records may ask outputs of new rules: by the graph of the rules and of the records that they keep.
+fn flags_led<L: Ledger>(
     alloc: Global,
     nodes: &Nodes,
     rules: &[Rule],
@@ -235,7 +277,7 @@ fn push_all(found: &mut Items<u32>, numbers: &[u32]) -> Result<(), GraphFault>
 }
 
 /// Whether the rule at a place is new.
-fn is_new(befores: &[Option<u32>], at: usize) -> bool
+pub(crate) fn is_new(befores: &[Option<u32>], at: usize) -> bool
     ensures { result ≡ is_new_at befores.now at }
 {
     match befores.get(at) {
