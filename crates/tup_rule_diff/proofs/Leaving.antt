@@ -130,7 +130,7 @@ first_of_first h n = λ i. record h { rules = take_take n h.rules i; places = ta
 pub less_leaves : (h : GraphState) (n : ℕ) (rules : List Rule) → length h.rules ≡ n + length rules → length h.places ≡ n + length rules → edited_by h (less_edits n rules) ≡ with_first h n
 less_leaves h n [] many level = sym (whole h n (omega (arith, many)) (omega (arith, level)))
 less_leaves h n (rule ∷ rules) many level =
-    both h (with_first h (suc n)) (with_first h n) (less_edits (suc n) rules) (rule_less n rule ∷ []) (less_leaves h (suc n) rules (omega (arith, many)) (omega (arith, level))) (first_of_first h n)
+    both h (with_first h (suc n)) (with_first h n) (less_edits (suc n) rules) (rule_less n ∷ []) (less_leaves h (suc n) rules (omega (arith, many)) (omega (arith, level))) (first_of_first h n)
 
 -- the places of rules behind others
 abbrev pub places_behind : List Rule → List Rule → List ℕ

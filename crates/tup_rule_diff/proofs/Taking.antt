@@ -40,7 +40,7 @@ use Rattle.tup_graph.proofs.Turns.{turns_read, taken_so, taken_both}
 use Rattle.tup_readers.proofs.Entries.{in_front, behind_front}
 use Rattle.tup_scan_diff.proofs.Editing.{found_entry}
 use Rattle.tup_scan_diff.proofs.Paths.{last_item}
-use Rattle.tup_rule_diff.specs.Edits.{AreSwapEdits, unflag, uncreate, unown, unrun, clear_edits, unread, read_so, reading_edits, less_edits, rule_less, more_edits, rule_more, place_behind, run_so, own_so, IsToRun}
+use Rattle.tup_rule_diff.specs.Edits.{AreSwapEdits, unflag, uncreate, unown, unrun, clear_edits, unread, read_so, reading_edits, less_edits, no_rule, rule_less, more_edits, rule_more, place_behind, run_so, own_so, IsToRun}
 use Rattle.tup_rule_diff.specs.Order.{AreByFolder}
 use Rattle.tup_rule_diff.proofs.Leaving.{cleared, clears, less_leaves, places_behind, led_graph, read_anew, bare, ruled, run_again, owned_again, leaves_read, leaves_bare, leaves_ruled, leaves_run, leaves_owned}
 use Rattle.tup_rule_diff.proofs.Swapping.{run_is, to_run}
@@ -121,15 +121,15 @@ bare_first h n is = record { runs = is.runs; owned = is.owned; created = is.crea
 less_taken : (h : GraphState) (n : ℕ) (rules : List Rule) → IsBare h → length h.rules ≡ n + length rules → length h.places ≡ n + length rules → AllByRecursion HasSpelling (less_edits n rules) → AreTakenInTurn h (less_edits n rules)
 less_taken h n [] is many level all = tt
 less_taken h n (rule ∷ rules) is many level all =
-    then h (with_first h (suc n)) (less_edits (suc n) rules) (rule_less n rule ∷ [])
-    (less_taken h (suc n) rules is (omega (arith, many)) (omega (arith, level)) (front (less_edits (suc n) rules) (rule_less n rule ∷ []) all))
+    then h (with_first h (suc n)) (less_edits (suc n) rules) (rule_less n ∷ [])
+    (less_taken h (suc n) rules is (omega (arith, many)) (omega (arith, level)) (front (less_edits (suc n) rules) (rule_less n ∷ []) all))
     (less_leaves h (suc n) rules (omega (arith, many)) (omega (arith, level))) (
       inr (record {
         number = n;
         place = 0;
-        rule = rule;
+        rule = no_rule;
         bare = bare_first h (suc n) is;
-        spelled = (rest (less_edits (suc n) rules) (rule_less n rule ∷ []) all).0;
+        spelled = (rest (less_edits (suc n) rules) (rule_less n ∷ []) all).0;
         one = inl (refl, length-take-le (suc n) h.rules (omega (arith, many)));
       }),
       tt,

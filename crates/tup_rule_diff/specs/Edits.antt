@@ -1,5 +1,5 @@
 -- The edits that a swap of rules makes of a graph (own).
-use Rattle.std.specs.Prelude.{◌≡◌, ◌⊎◌, ◌↔◌, ℕ, suc, List, [], ◌∷◌, ◌++◌, Option, Some, Contains, length, map, filter_map, option_map, count_by, slice_get}
+use Rattle.std.specs.Prelude.{◌≡◌, ◌⊎◌, ◌↔◌, ℕ, suc, false, List, [], ◌∷◌, ◌++◌, Option, None, Some, Contains, length, map, filter_map, option_map, count_by, slice_get}
 use Rattle.std.specs.FinMap as finite
 use Rattle.tup_path.specs.Name.{Names}
 use Rattle.tup_path.specs.Order.{by_names, same_path}
@@ -31,9 +31,17 @@ uncreate created = Remove (records.Create created.0)
 abbrev pub unown : Names × Owned → Edit
 unown owned = Remove (records.Owned owned.0 owned.1.maker owned.1.state)
 
+-- a record of a run that tells nothing: what goes is named by its number alone
+abbrev pub no_run : RunRecord
+no_run = record { asks = []; writes = [] }
+
+-- the record under a number goes
+abbrev pub run_less : ℕ → Edit
+run_less number = Remove (records.Run number no_run)
+
 -- the record of a run goes
 abbrev pub unrun : ℕ × RunRecord → Edit
-unrun run = Remove (records.Run run.0 run.1)
+unrun run = run_less run.0
 
 -- all of these go
 abbrev pub clear_edits : GraphState → List Edit
@@ -59,9 +67,13 @@ reading_edits g fresh gone = filter_map (unread g) gone ++ map read_so fresh
 
 -- ---- a rule goes, and a rule comes
 
--- a rule goes, by its number
-abbrev pub rule_less : ℕ → Rule → Edit
-rule_less number rule = Remove (records.Rule number 0 rule)
+-- a rule that tells nothing: what goes is named by its number alone
+abbrev pub no_rule : Rule
+no_rule = record { dir = []; text = []; display = None; compare = false; inputs = []; order = []; outputs = [] }
+
+-- the rule of a number goes
+abbrev pub rule_less : ℕ → Edit
+rule_less number = Remove (records.Rule number 0 no_rule)
 
 -- a rule comes, at this place among those of its folder
 abbrev pub rule_more : ℕ → ℕ → Rule → Edit
@@ -70,7 +82,7 @@ rule_more number place rule = Put (records.Rule number place rule)
 -- rules go, the last one first, where the first one has this number
 abbrev pub less_edits : ℕ → List Rule → List Edit
 less_edits number [] = []
-less_edits number (rule ∷ rules) = less_edits (suc number) rules ++ rule_less number rule ∷ []
+less_edits number (rule ∷ rules) = less_edits (suc number) rules ++ rule_less number ∷ []
 
 -- the place of a rule that comes behind others: how many of these are of its folder
 abbrev pub place_behind : List Rule → Rule → ℕ

@@ -86,5 +86,8 @@ fn one_asks_in(runs: &[(u32, RunRecord)], paths: &BTreeSet<Path>) -> bool
 fn asks_one(run: &RunRecord, paths: &BTreeSet<Path>) -> bool
     ensures { result ≡ asks_in paths.now run.now }
 {
-    run.asks.as_slice().iter().any(|(path, _)| paths.contains(path))
+    run.asks
+        .as_slice()
+        .iter()
+        .any(|(path, _)| paths.contains(path))
 }

@@ -1,24 +1,29 @@
 //! What a swap takes away: all but files and readings that stay.
-ghost use Rattle.std.specs.Prelude.{◌≡◌, ◌++◌, Ok, map, filter_map, IfErr, OnOk};
+ghost use Rattle.std.specs.Prelude.{◌≡◌, ◌++◌, Ok, map, filter_map, IfErr, IfOk, OnOk};
 ghost use Rattle.std.specs.FinMap as finite;
 ghost use Rattle.tup_path.specs.Gives.{GivesUnless};
-ghost use Rattle.tup_rule_diff.specs.Edits.{clear_edits, less_edits, rule_less, unflag as unflag_of, uncreate as uncreate_of, unown as unown_of, unrun as unrun_of, unread as unread_of};
+ghost use Rattle.tup_rule_diff.specs.Edits.{clear_edits, less_edits, no_rule as no_rule_of, rule_less, run_less as run_less_of, unflag as unflag_of, uncreate as uncreate_of, unown as unown_of, unrun as unrun_of, unread as unread_of};
 
 use crate::before::number_of;
+use std::alloc::{AllocError, Global};
 use tup_graph::{Edit, Edits, GraphFault, Nodes, Owned};
-use tup_path::Path;
+use tup_path::{Items, Path, Text};
 use tup_record::{Record, RunRecord};
 use tup_rule::Rule;
 
 /// Nothing is flagged, to be read, owned or recorded of a run.
-pub(crate) fn push_cleared(edits: &mut Edits, nodes: &Nodes) -> Result<(), GraphFault>
+pub(crate) fn push_cleared(
+    alloc: Global,
+    edits: &mut Edits,
+    nodes: &Nodes,
+) -> Result<(), GraphFault>
     ensures ok { OnOk result (edits.new ≡ edits.old ++ clear_edits nodes.now) }
     ensures err { IfErr result (λ fault. fault ≡ GraphFault.Memory) }
 {
     push_unflagged(edits, nodes)?;
     push_uncreated(edits, nodes)?;
     push_unowned(edits, nodes)?;
-    push_unrun(edits, nodes)
+    push_unrun(alloc, edits, nodes)
 }
 
 fn push_unflagged(edits: &mut Edits, nodes: &Nodes) -> Result<(), GraphFault>
@@ -70,24 +75,26 @@ fn unowned(path: &Path, owned: &Owned) -> Result<Edit, GraphFault>
     }))
 }
 
-fn push_unrun(edits: &mut Edits, nodes: &Nodes) -> Result<(), GraphFault>
+fn push_unrun(alloc: Global, edits: &mut Edits, nodes: &Nodes) -> Result<(), GraphFault>
     ensures ok { OnOk result (edits.new
         ≡ edits.old ++ map unrun_of (finite.entries nodes.now.runs)) }
     ensures err { IfErr result (λ fault. fault ≡ GraphFault.Memory) }
 {
-    for (number, last) in nodes.runs() {
-        edits.push(unrun(*number, last)?)?;
+    for (number, _) in nodes.runs() {
+        edits.push(run_less(alloc, *number))?;
     }
     Ok(())
 }
 
-fn unrun(number: u32, run: &RunRecord) -> Result<Edit, GraphFault>
-    ensures { GivesUnless result GraphFault.Memory (Ok (unrun_of (number, run.now))) }
+/// The record under a number goes, whatever it tells.
+fn run_less(alloc: Global, number: u32) -> Edit
+    ensures { result ≡ run_less_of number }
 {
-    Ok(Edit::Remove(Record::Run {
-        number,
-        run: run.clone()?,
-    }))
+    let run = RunRecord {
+        asks: Items::new(alloc),
+        writes: Items::new(alloc),
+    };
+    Edit::Remove(Record::Run { number, run })
 }
 
 /// The readings of some folders are gone.
@@ -118,26 +125,40 @@ fn unread(nodes: &Nodes, dir: &Path) -> Result<Option<Edit>, GraphFault>
 }
 
 /// Rules go, the last one first.
-pub(crate) fn push_less(edits: &mut Edits, rules: &[Rule]) -> Result<(), GraphFault>
+pub(crate) fn push_less(alloc: Global, edits: &mut Edits, rules: &[Rule]) -> Result<(), GraphFault>
     ensures ok { OnOk result (edits.new ≡ edits.old ++ less_edits 0 rules.now) }
     ensures err { IfErr result (λ fault. fault ≡ GraphFault.Memory) }
 {
     let mut at = rules.len();
     'rules: while at > 0 {
         at -= 1;
-        edits.push(less(at, &rules[at])?)?;
+        edits.push(less(alloc, at)?)?;
     }
     Ok(())
 }
 
-/// The rule at a place goes.
-fn less(at: usize, rule: &Rule) -> Result<Edit, GraphFault>
-    ensures { GivesUnless result GraphFault.Memory (Ok
-        (rule_less at rule.now)) }
+/// The rule at a place goes, whatever it tells.
+fn less(alloc: Global, at: usize) -> Result<Edit, GraphFault>
+    ensures { GivesUnless result GraphFault.Memory (Ok (rule_less at)) }
 {
     Ok(Edit::Remove(Record::Rule {
         number: number_of(at)?,
         place: 0,
-        rule: rule.clone()?,
+        rule: no_rule(alloc)?,
     }))
+}
+
+/// A rule that tells nothing.
+fn no_rule(alloc: Global) -> Result<Rule, AllocError>
+    ensures { IfOk result (λ rule. rule ≡ no_rule_of) }
+{
+    Ok(Rule {
+        dir: Path::top(alloc),
+        text: Text::from_str(alloc, "")?,
+        display: None,
+        compare: false,
+        inputs: Items::new(alloc),
+        order: Items::new(alloc),
+        outputs: Items::new(alloc),
+    })
 }

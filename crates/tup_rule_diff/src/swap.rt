@@ -58,7 +58,7 @@ pub fn swap_rules<L: Ledger>(
     )?;
     let owned = owned_now(alloc, nodes, rules)?;
     let mut edits = Items::new(alloc);
-    push_away(&mut edits, nodes, fresh)?;
+    push_away(alloc, &mut edits, nodes, fresh)?;
     push_now(
         alloc,
         &mut edits,
@@ -71,16 +71,21 @@ pub fn swap_rules<L: Ledger>(
 }
 
 /// What goes: all but files and the readings that stay.
-fn push_away(edits: &mut Edits, nodes: &Nodes, fresh: &Refreshed) -> Result<(), GraphFault>
+fn push_away(
+    alloc: Global,
+    edits: &mut Edits,
+    nodes: &Nodes,
+    fresh: &Refreshed,
+) -> Result<(), GraphFault>
     ensures ok { OnOk result (edits.new ≡ edits.old ++ clear_edits nodes.now
         ++ reading_edits nodes.now fresh.now.readings fresh.now.gone
         ++ less_edits 0 nodes.now.rules) }
     ensures err { IfErr result (λ fault. fault ≡ GraphFault.Memory) }
 {
-    push_cleared(edits, nodes)?;
+    push_cleared(alloc, edits, nodes)?;
     push_unread(edits, nodes, fresh.gone.as_slice())?;
     push_fresh(edits, fresh.readings.as_slice())?;
-    push_less(edits, nodes.rules())
+    push_less(alloc, edits, nodes.rules())
 }
 
 /// What is there now: rules, their records, owned paths and flags.

@@ -1,10 +1,7 @@
 use Rattle.std.proofs.Common.{Ok, inr}
-use Rattle.tup_closure.proofs.Copied.{same_rule}
-use Rattle.tup_rule_diff.specs.Edits.{rule_less}
+use Rattle.tup_record.specs.declared.record.Record.TheVariants as records
+use Rattle.tup_graph.specs.declared.edit.Edit.TheVariants.{Remove}
 use Rattle.tup_rule_diff.proofs.clearing.less.Goals as goal
 
 pub returns : goal.returns
-returns c =
-    let is = c.in_ok-clone.ensures.cases in
-    let same = same_rule c.args.rule.now c.in_ok-clone.field-0 is.0 is.1.0 is.1.1.0 is.1.1.1.0 is.1.1.1.1.0.0 is.1.1.1.1.1.0.0 is.1.1.1.1.1.1.0 in
-    inr (λ i. Ok (rule_less (c.in_ok-number_of.ensures.number i) (same i)))
+returns c = inr (λ i. Ok (Remove (records.Rule (c.in_ok-number_of.ensures.number i) 0 (c.in_ok-no_rule.ensures i))))

@@ -3,12 +3,12 @@ use Rattle.std.specs.FinMap as finite
 use Rattle.std.specs.Map.Iter.{deref_pair}
 use Rattle.std.proofs.lemmas.Map.Iter.{iter_end}
 use Rattle.tup_rule_diff.specs.Edits.{unrun}
-use Rattle.tup_rule_diff.proofs.Pushing.{item_more, given}
+use Rattle.tup_rule_diff.proofs.Pushing.{item_more}
 use Rattle.tup_rule_diff.proofs.clearing.push_unrun.Goals as goal
 
 pub loop-number-preserved : goal.loop-number-preserved
 loop-number-preserved c =
-    item_more deref_pair unrun c.args.edits.now c.loop-number.edits c.push.new.self c.loop-number.yielded (c.in-Some.number, c.in-Some.last) c.in_ok-unrun.field-0 (given c.in_ok-unrun.field-0 (unrun (deref_pair (c.in-Some.number, c.in-Some.last))) _ c.in_ok-unrun.ensures) c.loop-number.invariant c.in_ok-push.ensures.ok
+    item_more deref_pair unrun c.args.edits.now c.loop-number.edits c.push.new.self c.loop-number.yielded (c.in-Some.number, c.in-Some.field-0-1) c.run_less.result c.run_less.ensures c.loop-number.invariant c.in_ok-push.ensures.ok
 
 pub returns-clause-ok : goal.returns-clause-ok
 returns-clause-ok c =
