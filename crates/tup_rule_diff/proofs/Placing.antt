@@ -1,19 +1,37 @@
--- Rules that come one after another, each with its place.
-use Rattle.std.specs.Prelude.{◌≡◌, ◌+◌, ◌<◌, ℕ, Bool, true, false, cond, List, [], ◌∷◌, ◌++◌, Option, Some, count_by, length, take, unwrap_or}
-use Rattle.std.proofs.Common.{refl, sym, ap, subst, ◌∙◌, append_assoc, get_or, arith}
-use Rattle.std.specs.FinMap as finite
+-- Rules that go one after another, and rules that come, each with its place.
+use Rattle.std.specs.Prelude.{◌≡◌, ◌+◌, ◌-◌, ◌<◌, ◌≤◌, ℕ, zero, suc, Bool, true, false, cond, List, [], ◌∷◌, ◌++◌, count_by, drop, length, take, if◌then◌else◌}
+use Rattle.std.proofs.Common.{refl, sym, ap, subst, ◌∙◌, append_assoc, length-append, get_or, arith}
 use Rattle.std.proofs.lemmas.List.{append-nil, length-take-le}
 use Rattle.tup_path.specs.Name.{Names}
-use Rattle.tup_path.specs.Order.{by_names, by_names-total, same_path, same_path-by_names}
+use Rattle.tup_path.specs.Order.{same_path}
 use Rattle.tup_path.proofs.Same.{same_path-decides}
 use Rattle.tup_rule.specs.declared.rule.Rule.{Rule}
 use Rattle.tup_graph.specs.declared.edit.Edit.{Edit}
+use Rattle.tup_closure.specs.Lists.{list_of}
+use Rattle.tup_closure.specs.declared.lists.Lists.{Lists}
 use Rattle.tup_closure.proofs.Asked.{taken}
-use Rattle.tup_rule_diff.specs.Edits.{more_edits, rule_more, place_behind}
+use Rattle.tup_rule_diff.specs.Before.{count_of}
+use Rattle.tup_rule_diff.specs.Edits.{less_edits, more_edits, rule_less, rule_more, place_behind}
 use Rattle.tup_rule_diff.proofs.Pushing.{behind}
 use Rattle.tup_rule_diff.proofs.Taking.{one_more}
 
--- ---- edits
+-- ---- rules that go, the last one first
+less_at : (number n : ℕ) (rules : List Rule) → n < length rules → less_edits number (drop n rules) ≡ less_edits (suc number) (drop (suc n) rules) ++ rule_less number ∷ []
+less_at number zero [] less = absurd (omega (arith, less))
+less_at number zero (rule ∷ rules) less = refl
+less_at number (suc n) [] less = absurd (omega (arith, less))
+less_at number (suc n) (rule ∷ rules) less = less_at number n rules (omega (arith, less))
+
+pub less_more : (rules : List Rule) (at : ℕ) (start edits new : List Edit) → 0 < at → at ≤ length rules → edits ≡ start ++ less_edits at (drop at rules) → new ≡ edits ++ rule_less (at - 1) ∷ [] → new ≡ start ++ less_edits (at - 1) (drop (at - 1) rules)
+less_more rules zero start edits new some within so_far is = absurd (omega (arith, some))
+less_more rules (suc n) start edits new some within so_far is =
+    let back : suc n - 1 ≡ n = omega arith in
+    behind start edits new (less_edits (suc n) (drop (suc n) rules)) (rule_less (suc n - 1) ∷ []) so_far is
+    ∙ (λ k. start ++ (less_edits (suc n) (drop (suc n) rules) ++ rule_less (back k) ∷ []))
+    ∙ ap (λ (l : List Edit). start ++ l) (sym (less_at n n rules (omega (arith, within))))
+    ∙ (λ k. start ++ less_edits (sym back k) (drop (sym back k) rules))
+
+-- ---- rules that come
 edits_push : (before rules : List Rule) (rule : Rule) → more_edits before (rules ++ rule ∷ []) ≡ more_edits before rules ++ rule_more (length (before ++ rules)) (place_behind (before ++ rules) rule) rule ∷ []
 edits_push before [] rule = ap (λ (l : List Rule). rule_more (length l) (place_behind l rule) rule ∷ []) (sym (append-nil before))
 edits_push before (first ∷ rules) rule =
@@ -21,24 +39,29 @@ edits_push before (first ∷ rules) rule =
     (edits_push (before ++ first ∷ []) rules rule ∙ ap (λ (l : List Rule). more_edits (before ++ first ∷ []) rules ++ rule_more (length l) (place_behind l rule) rule ∷ []) (append_assoc before (first ∷ []) rules))
 
 -- ---- how many rules each folder has
-abbrev pub Places : Type 0
-Places = finite.FinMap by_names ℕ
-
-abbrev pub ArePlaces : List Rule → Places → Type 0
-ArePlaces rules places = (dir : Names) → unwrap_or (finite.get places dir) 0 ≡ count_by (λ (rule : Rule). same_path rule.dir dir) rules
-
-pub no_places : (places : Places) → places ≡ finite.empty → ArePlaces [] places
-no_places places none dir = ap (λ (m : Places). unwrap_or (finite.get m dir) 0) none ∙ ap (λ (o : Option ℕ). unwrap_or o 0) (finite.get-empty by_names dir)
-
--- how many rules a folder has
 abbrev counted : List Rule → Names → ℕ
 counted rules dir = count_by (λ (rule : Rule). same_path rule.dir dir) rules
 
-place_push : (rules : List Rule) (rule : Rule) (places : Places) → ArePlaces rules places → ArePlaces (rules ++ rule ∷ []) (finite.insert places rule.dir (unwrap_or (finite.get places rule.dir) 0 + 1))
-place_push rules rule places are dir =
-    ap (λ (o : Option ℕ). unwrap_or o 0) (finite.get-insert by_names-total places rule.dir (unwrap_or (finite.get places rule.dir) 0 + 1) dir)
-    ∙ ap (λ (b : Bool). unwrap_or (cond b (Some (unwrap_or (finite.get places rule.dir) 0 + 1)) (finite.get places dir)) 0) (sym (same_path-by_names dir rule.dir) ∙ turned)
-    ∙ by (same_path rule.dir dir) (λ same. ap (λ (d : Names). unwrap_or (finite.get places d) 0) ((same_path-decides rule.dir dir).0 same) ∙ are dir)
+-- each folder has as many places as rules
+abbrev pub ArePlaces : List Rule → Lists ℕ → Type 0
+ArePlaces rules places = (dir : Names) → count_of places dir ≡ count_by (λ (rule : Rule). same_path rule.dir dir) rules
+
+-- a folder has one place more
+abbrev pub OneMore : Names → Lists ℕ → Lists ℕ → Type 0
+OneMore dir old new = (folder : Names) → count_of new folder ≡ count_of old folder + (if same_path folder dir then 1 else 0)
+
+pub no_places : (places : Lists ℕ) → ((path : Names) → list_of places path ≡ []) → ArePlaces [] places
+no_places places none dir = ap length (none dir)
+
+-- one value more in the list of a folder
+pub longer : (b : Bool) (list : List ℕ) (value : ℕ) → length (if b then list ++ value ∷ [] else list) ≡ length list + (if b then 1 else 0)
+longer true list value = length-append list (value ∷ [])
+longer false list value = omega arith
+
+place_push : (rules : List Rule) (rule : Rule) (places new : Lists ℕ) → ArePlaces rules places → OneMore rule.dir places new → ArePlaces (rules ++ rule ∷ []) new
+place_push rules rule places new are more dir =
+    more dir
+    ∙ (λ k. are dir k + (if turned k then 1 else 0))
     ∙ sym (one_more (λ (other : Rule). same_path other.dir dir) rules rule)
   where
     both : (a b : Bool) → (a ≡ true → b ≡ true) → (b ≡ true → a ≡ true) → a ≡ b
@@ -50,15 +73,11 @@ place_push rules rule places are dir =
     turned = both (same_path dir rule.dir) (same_path rule.dir dir)
         (λ e. (same_path-decides rule.dir dir).1 (sym ((same_path-decides dir rule.dir).0 e))) (λ e. (same_path-decides dir rule.dir).1 (sym ((same_path-decides rule.dir dir).0 e)))
 
-    by : (b : Bool) → (b ≡ true → unwrap_or (finite.get places rule.dir) 0 ≡ counted rules dir) → unwrap_or (cond b (Some (unwrap_or (finite.get places rule.dir) 0 + 1)) (finite.get places dir)) 0 ≡ counted rules dir + cond b 1 0
-    by true same = ap (λ (n : ℕ). n + 1) (same refl)
-    by false same = are dir ∙ (let plain : counted rules dir ≡ counted rules dir + 0 = omega arith in plain)
-
 module _ (rules : List Rule) (i : ℕ) (rule : Rule) (less : i < length rules) (here : rule ≡ get_or rules i rule) where
-  pub place_more : (places new : Places) → ArePlaces (take i rules) places → new ≡ finite.insert places rule.dir (unwrap_or (finite.get places rule.dir) 0 + 1) → ArePlaces (take (i + 1) rules) new
-  place_more places new are is = subst (λ (x : List Rule × Places). ArePlaces x.0 x.1) (λ k. (sym (taken rules i rule rule less here) k, sym is k)) (place_push (take i rules) rule places are)
+  pub place_more : (places new : Lists ℕ) → ArePlaces (take i rules) places → OneMore rule.dir places new → ArePlaces (take (i + 1) rules) new
+  place_more places new are more = subst (λ (l : List Rule). ArePlaces l new) (sym (taken rules i rule rule less here)) (place_push (take i rules) rule places new are more)
 
-  pub rule_put : (places : Places) (place : ℕ) (start edits new : List Edit) → ArePlaces (take i rules) places → place ≡ unwrap_or (finite.get places rule.dir) 0 → edits ≡ start ++ more_edits [] (take i rules) → new ≡ edits ++ rule_more i place rule ∷ []
+  pub rule_put : (places : Lists ℕ) (place : ℕ) (start edits new : List Edit) → ArePlaces (take i rules) places → place ≡ count_of places rule.dir → edits ≡ start ++ more_edits [] (take i rules) → new ≡ edits ++ rule_more i place rule ∷ []
       → new ≡ start ++ more_edits [] (take (i + 1) rules)
   rule_put places place start edits new are at so_far is =
       behind start edits new (more_edits [] (take i rules)) (rule_more i place rule ∷ []) so_far is

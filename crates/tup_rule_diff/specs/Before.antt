@@ -1,5 +1,5 @@
 -- Which rules are the same as rules of a graph (own).
-use Rattle.std.specs.Prelude.{◌≡◌, ℕ, List, [], ◌∷◌, Option, None, Some, unwrap_or, slice_get, if◌then◌else◌}
+use Rattle.std.specs.Prelude.{◌≡◌, ℕ, List, [], ◌∷◌, Option, None, Some, length, unwrap_or, slice_get, if◌then◌else◌}
 use Rattle.tup_path.specs.Name.{Names}
 use Rattle.tup_path.specs.Order.{same_path}
 use Rattle.tup_rule.specs.declared.rule.Rule.{Rule}
@@ -28,6 +28,10 @@ path_of rule = unwrap_or (slice_get rule.outputs 0) rule.dir
 -- the number of a rule, if it is looked up by this path
 abbrev pub number_at : Names → ℕ → Rule → List ℕ
 number_at path number rule = if same_path path (path_of rule) then number ∷ [] else []
+
+-- how many values a path has
+abbrev pub count_of : {V : Type 0} → Lists V → Names → ℕ
+count_of lists path = length (list_of lists path)
 
 -- each path has just the numbers of the rules listed that are looked up by it
 abbrev pub AreNumbersByPath : List Rule → Lists ℕ → Type 0

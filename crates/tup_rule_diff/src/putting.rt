@@ -1,13 +1,16 @@
 //! What a swap puts in: readings, rules, records of runs, owned paths and flags.
-ghost use Rattle.std.specs.Prelude.{◌≡◌, ◌++◌, ◌+◌, [], Ok, map, IfOk, IfErr, OnOk};
+ghost use Rattle.std.specs.Prelude.{◌≡◌, ◌++◌, ◌+◌, [], Ok, map, if◌then◌else◌, IfOk, IfErr, OnOk};
 ghost use Rattle.std.specs.FinMap as finite;
-ghost use Rattle.std.specs.Option.{unwrap_or};
 ghost use Rattle.tup_path.specs.Gives.{GivesUnless};
+ghost use Rattle.tup_path.specs.Name.{Names};
+ghost use Rattle.tup_path.specs.Order.{same_path};
 ghost use Rattle.tup_graph.specs.Transactions.{flag_edits};
+ghost use Rattle.tup_rule_diff.specs.Before.{count_of};
 ghost use Rattle.tup_rule_diff.specs.Edits.{more_edits, rule_more, own_so as own_of, read_so as read_of, run_so as run_of};
 
 use crate::before::number_of;
 use std::alloc::Global;
+use tup_closure::Lists;
 use tup_graph::{Edit, Edits, GraphFault, Owned};
 use tup_path::{ByPath, Path};
 use tup_record::{Record, RunRecord};
@@ -38,9 +41,9 @@ pub(crate) fn push_more(alloc: Global, edits: &mut Edits, rules: &[Rule]) -> Res
     ensures ok { OnOk result (edits.new ≡ edits.old ++ more_edits [] rules.now) }
     ensures err { IfErr result (λ fault. fault ≡ GraphFault.Memory) }
 {
-    let mut places = ByPath::new(alloc);
+    let mut places = Lists::new(alloc);
     for (at, rule) in rules.iter().enumerate() {
-        let place = next_place(&mut places, &rule.dir)?;
+        let place = next_place(alloc, &mut places, &rule.dir)?;
         edits.push(more(at, place, rule)?)?;
     }
     Ok(())
@@ -59,17 +62,14 @@ fn more(at: usize, place: u32, rule: &Rule) -> Result<Edit, GraphFault>
 }
 
 /// How many rules a folder had so far, and one more now.
-fn next_place(places: &mut ByPath<u32>, dir: &Path) -> Result<u32, GraphFault>
-    ensures place { IfOk result (λ place. place ≡ unwrap_or (finite.get places.old dir.now) 0) }
-    ensures ok { OnOk result (places.new ≡ finite.insert places.old dir.now
-        (unwrap_or (finite.get places.old dir.now) 0 + 1)) }
+fn next_place(alloc: Global, places: &mut Lists<u32>, dir: &Path) -> Result<u32, GraphFault>
+    ensures place { IfOk result (λ place. place ≡ count_of places.old dir.now) }
+    ensures ok { OnOk result ((folder : Names) → count_of places.new folder
+        ≡ count_of places.old folder + (if same_path folder dir.now then 1 else 0)) }
     ensures err { IfErr result (λ fault. fault ≡ GraphFault.Memory) }
 {
-    let place = places.get(dir).copied().unwrap_or(0);
-    let Some(next) = place.checked_add(1) else {
-        return Err(GraphFault::Memory);
-    };
-    places.insert(dir.clone()?, next)?;
+    let place = number_of(places.of(dir).len())?;
+    places.add(alloc, dir, place)?;
     Ok(place)
 }
 

@@ -8,7 +8,7 @@ use Rattle.tup_rule_diff.proofs.putting.push_more.Goals as goal
 pub loop-at-init : goal.loop-at-init
 loop-at-init c = record {
   edits = search rules;
-  places = no_places c.new-places.result c.new-places.ensures;
+  places = no_places c.new-places.result c.new-places.ensures.lists;
 }
 
 pub loop-at-preserved : goal.loop-at-preserved
