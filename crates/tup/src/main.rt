@@ -74,13 +74,23 @@ const JOBS: u32 = 4;
 /// The version. The tests, the manual and the Makefile read it here.
 const VERSION: &str = "0.10";
 
+/// How many bytes the block has that is freed first.
+const FIRST_BLOCK: usize = 33_000_000;
+
 fn main(rt: HostRuntime) -> ExitCode {
     streams::fill(rt);
+    keep_blocks(rt.alloc());
     let status = match words(&rt, rt.alloc()) {
         Ok(words) => answer(rt, &rt, rt.alloc(), &words),
         Err(status) => told(&rt, status),
     };
     ExitCode::from(status)
+}
+
+/// Has blocks of memory used again once they are freed. The C library gives a block that is larger than all that were freed before
+/// back to the system, which clears each page of the next one anew. So a large one is freed first, to which nothing was written.
+fn keep_blocks(alloc: Global) {
+    drop(Vec::<u8>::with_capacity(alloc, FIRST_BLOCK));
 }
 
 /// Answers the words, and gives the exit number. Crews are started by a handle of their own.
