@@ -1,14 +1,16 @@
 -- Who reads what the reached rules make: a map of makers and lists of readers, as they are filled.
-use Rattle.std.proofs.Common.{◌≡◌, ℕ, zero, suc, ◌+◌, ◌<◌, ◌≤◌, ◌==◌, Bool, true, false, not, ◌&&◌, ◌||◌, cond, List, [], ◌∷◌, ◌++◌, length, get_or, take, replicate, Option, None, Some, refl, sym, ap, ◌∙◌, subst, inl, inr, arith}
-use Rattle.std.specs.Prelude.{if◌then◌else◌, is_some, slice_get, unwrap_or}
+use Rattle.std.proofs.Common.{◌≡◌, ℕ, zero, suc, ◌+◌, ◌<◌, ◌≤◌, ◌==◌, Bool, true, false, not, ◌&&◌, ◌||◌, cond, eqb, List, [], ◌∷◌, ◌++◌, length, get_or, take, replicate, Option, None, Some, refl, sym, ap, ◌∙◌, subst, inl, inr, arith}
+use Rattle.std.specs.Prelude.{if◌then◌else◌, is_some, nat_lt, slice_get, unwrap_or}
 use Rattle.std.specs.BTreeMap.{get, is_at}
 use Rattle.std.specs.Map.{lookup}
 use Rattle.std.specs.BTreeSet.{BTreeSet, contains}
+use Rattle.std.specs.List.{position, position_or_len}
 use Rattle.std.specs.Option.{option_or}
 use Rattle.std.specs.Ordering.{eq_by_cmp}
-use Rattle.std.proofs.lemmas.Bool.{true≢false, cases_eq, cases_lt, and_parts, not-true, eq-eqb, ne_eqb}
-use Rattle.std.proofs.lemmas.List.{take_more, length-take-le}
-use Rattle.std.proofs.lemmas.List.Folds.{list_any_more, list_any-append}
+use Rattle.std.proofs.lemmas.Bool.{true≢false, cases_eq, cases_lt, and_parts, not-true, eq-eqb, ne_eqb, lt-ltb, le-ltb}
+use Rattle.std.proofs.lemmas.List.{take_more, length-take-le, length_push}
+use Rattle.std.proofs.lemmas.List.Folds.{list_any_more, list_any-append, position_or_len_push}
+use Rattle.std.proofs.lemmas.List.Sums.{prefix_len-le-length}
 use Rattle.std.proofs.lemmas.Option.{same_Some, none-some, slice_get_within, slice_get-get_or}
 use Rattle.tup_path.specs.Name.{Names}
 use Rattle.tup_path.specs.Order.{by_names, same_path}
@@ -17,7 +19,6 @@ use Rattle.tup_rule.specs.declared.rule.Rule.{Rule}
 use Rattle.tup_rule.specs.Makers.{MakerMap, producers_in}
 use Rattle.tup_rule.specs.Rule.{among, maker, writes}
 use Rattle.tup_rule.proofs.Laws.{maker-Some}
-use Rattle.tup_rule.proofs.Making.{position-push}
 use Rattle.tup_clean.specs.Queue.{count_of, AreBelow, IsNoted}
 use Rattle.tup_clean.proofs.Counting.{count_of-take}
 use Rattle.tup_clean.proofs.Places.{some_place}
@@ -25,6 +26,25 @@ use Rattle.tup_core.specs.Links.{AreNear, AreListed, AreMade, AreUp, HasMakersIn
 use Rattle.tup_core.specs.Waiting.{flag, times}
 use Rattle.tup_core.proofs.FilesLaws.{same_key}
 use Rattle.tup_core.proofs.WaitingLaws.{makes_one, counts_one, there, entry_of}
+
+-- ---- one more at the end
+
+-- the first that passes among some and one more
+as_found : (k n : ℕ) (b : Bool) → k ≤ n → cond (nat_lt (cond (eqb k n) (n + cond b 0 1) k) (n + 1)) (Some (cond (eqb k n) (n + cond b 0 1) k)) None ≡ option_or (cond (nat_lt k n) (Some k) None) (if b then Some n else None)
+as_found k n b le = elim (cases_lt k n) [
+  | inl below ↦ rw (ne_eqb k n (omega arith), lt-ltb k n below, lt-ltb k (n + 1) (omega arith)) refl
+  | inr above ↦ rw (eq-eqb k n (omega arith), le-ltb k n above) (last b)
+]
+  where
+    last : (b : Bool) → cond (nat_lt (n + cond b 0 1) (n + 1)) (Some (n + cond b 0 1)) None ≡ (if b then Some n else None)
+    last true = rw (lt-ltb (n + 0) (n + 1) (omega arith)) (ap Some (omega arith))
+    last false = rw (le-ltb (n + 1) (n + 1) (omega arith)) refl
+
+position-push : {A : Type 0} (p : A → Bool) (xs : List A) (y : A) → position p (xs ++ y ∷ []) ≡ option_or (position p xs) (if p y then Some (length xs) else None)
+position-push p xs y =
+    ap (λ (k : ℕ). cond (nat_lt k (length (xs ++ y ∷ []))) (Some k) None) (position_or_len_push p xs y)
+    ∙ ap (λ (n : ℕ). cond (nat_lt (cond (eqb (position_or_len p xs) (length xs)) (length xs + cond (p y) 0 1) (position_or_len p xs)) n) (Some (cond (eqb (position_or_len p xs) (length xs)) (length xs + cond (p y) 0 1) (position_or_len p xs))) None) (length_push xs y)
+    ∙ as_found (position_or_len p xs) (length xs) (p y) (prefix_len-le-length (λ x. not (p x)) xs)
 
 -- ---- one output more
 

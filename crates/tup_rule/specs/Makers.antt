@@ -1,7 +1,6 @@
 -- The makers of paths in a map, and the makers of what a rule declares.
-use Rattle.std.specs.Prelude.{◌≡◌, ℕ, if◌then◌else◌, List, ◌++◌, None, Some, filter_map}
+use Rattle.std.specs.Prelude.{◌≡◌, ℕ, if◌then◌else◌, List, ◌++◌, Some, filter_map}
 use Rattle.std.specs.BTreeMap.{BTreeMap, get}
-use Rattle.std.specs.Option.{option_or}
 use Rattle.tup_path.specs.Name.{Names}
 use Rattle.tup_path.specs.Order.{by_names}
 use Rattle.tup_rule.specs.declared.rule.Rule.{Rule}
@@ -15,9 +14,9 @@ MakerMap = BTreeMap Names ℕ
 pub record HasMakers (rules : List Rule) (makers : MakerMap) : Type 0 where
   pub each : (path : Names) → get by_names makers path ≡ maker path rules
 
--- a map that has one maker more
-pub record AddsMaker (outputs : List Names) (at : ℕ) (old new : MakerMap) : Type 0 where
-  pub each : (path : Names) → get by_names new path ≡ option_or (get by_names old path) (if among path outputs then Some at else None)
+-- a map that has one maker more, before those that were
+pub record SetsMaker (outputs : List Names) (at : ℕ) (old new : MakerMap) : Type 0 where
+  pub each : (path : Names) → get by_names new path ≡ (if among path outputs then Some at else get by_names old path)
 
 -- the makers of the paths that a rule declares, one for each path that has one
 abbrev pub producers : List Rule → Rule → List ℕ

@@ -1,6 +1,6 @@
 //! Which rule makes a path, and for which rules a rule waits.
 ghost use Rattle.std.specs.Prelude.{◌≡◌, ◌++◌, IfOk, OnOk};
-ghost use Rattle.tup_rule.specs.Makers.{HasMakers, AddsMaker, makers_in, producers_in};
+ghost use Rattle.tup_rule.specs.Makers.{HasMakers, SetsMaker, makers_in, producers_in};
 
 use crate::rule::Rule;
 use std::alloc::{AllocError, Global};
@@ -11,24 +11,25 @@ use tup_path::Path;
 pub type Makers = BTreeMap<Path, usize>;
 
 /// The makers of all paths: the first rule that has a path as an output.
+///
+/// The last rule is noted first. The outputs of most projects ascend from rule to rule, and a path that comes before all of a map
+/// finds its place there by one comparison in each node.
 pub fn makers(alloc: Global, rules: &[Rule]) -> Result<Makers, AllocError>
     ensures { IfOk result (HasMakers rules.now) }
 {
     let mut makers = BTreeMap::new(alloc);
-    for (at, rule) in rules.iter().enumerate() {
-        add_maker(&mut makers, rule.outputs.as_slice(), at)?;
+    for at in (0..rules.len()).rev() {
+        set_maker(&mut makers, rules[at].outputs.as_slice(), at)?;
     }
     Ok(makers)
 }
 
-/// Notes a rule as the maker of its outputs, save of those that have one.
-fn add_maker(makers: &mut Makers, outputs: &[Path], at: usize) -> Result<(), AllocError>
-    ensures { OnOk result (AddsMaker outputs.now at makers.old makers.new) }
+/// Notes a rule as the maker of its outputs, in the place of the rule that was.
+fn set_maker(makers: &mut Makers, outputs: &[Path], at: usize) -> Result<(), AllocError>
+    ensures { OnOk result (SetsMaker outputs.now at makers.old makers.new) }
 {
     for output in outputs {
-        if !makers.contains_key(output) {
-            makers.insert(output.clone()?, at)?;
-        }
+        makers.insert(output.clone()?, at)?;
     }
     Ok(())
 }

@@ -1,6 +1,0 @@
-use Rattle.std.proofs.Common.{take}
-use Rattle.tup_rule.specs.Makers.{AddsMaker}
-use Rattle.tup_rule.proofs.by_path.add_maker.Given as goal
-
-abbrev pub invariant-loop-output : goal.invariant-loop-output
-invariant-loop-output l = AddsMaker (take l.output-index l.outputs) l.at l.fn.makers l.makers
