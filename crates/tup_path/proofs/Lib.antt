@@ -5,3 +5,4 @@ pub mod Cuts
 pub mod Written
 pub mod Shown
 pub mod Maps
+pub mod Padded

@@ -5,3 +5,4 @@ pub mod Order
 pub mod Tree
 pub mod Resolve
 pub mod Show
+pub mod Body

@@ -1,16 +1,16 @@
 //! A text: bytes that are UTF-8.
-ghost use Rattle.std.specs.Prelude.{◌≡◌, nat_eq, refl, IsUtf8, MatchOption, IfOk, string_bytes, Some, ◌++◌, OnOk, OnErr};
+ghost use Rattle.std.specs.Prelude.{◌≡◌, ◌≤◌, ◌-◌, nat_eq, refl, IsUtf8, MatchOption, IfOk, IfSome, string_bytes, Some, ◌++◌, OnOk, OnErr, length, take, drop, replicate};
 ghost use Rattle.std.specs.Cmp.{partial_order_from_own_ties};
 ghost use Rattle.std.specs.Cmp.Rules.{comparing};
 ghost use Rattle.std.specs.Hash as fed;
 ghost use Rattle.std.specs.Hash.{same_Alike};
 ghost use Rattle.std.specs.Ordering.{as_partial_cmp};
 ghost use Rattle.std.specs.Cmp.Lexicographic.{pointwise, bytes_decides};
+ghost use Rattle.tup_path.specs.Body.{high_first};
 ghost use Rattle.std.proofs.Common.{rules};
 ghost use Rattle.tup_path.specs.Order.{by_bytes};
 
 use crate::bytes::Bytes;
-use smallvec::SmallVec;
 use std::alloc::{AllocError, Global};
 use std::cmp::Ordering;
 use std::hash::{Hash, Hasher};
@@ -26,17 +26,31 @@ const INSIDE: usize = 24;
 /// A list of bytes that is UTF-8. A short one lies in the value itself. Contracts see the bytes.
 #[derive(Debug, Drop)]
 pub struct Text {
-    bytes: SmallVec<u8, INSIDE>,
+    body: Body,
+}
+
+/// Where the bytes of a text lie.
+#[derive(Debug, Drop)]
+enum Body {
+    /// In the value: the first `len` of these, with zeros behind them.
+    Short {
+        alloc: Global,
+        bytes: [u8; INSIDE],
+        len: u8,
+    },
+    /// In memory of their own.
+    Long(Vec<u8>),
 }
 
 impl Model for Text {
     ghost use Rattle.std.specs.Prelude.{List, ℕ, IsUtf8};
+    ghost use Rattle.tup_path.specs.Body.{bytes_in, HasZeros};
 
     ghost Value = { List ℕ };
 
-    ghost view = { λ t. t.bytes.items };
+    ghost view = { λ t. bytes_in t.body };
 
-    ghost invariant = { λ t. IsUtf8 t.bytes.items };
+    ghost invariant = { λ t. IsUtf8 (bytes_in t.body) × HasZeros t.body };
 }
 
 impl Text {
@@ -50,7 +64,7 @@ impl Text {
         }
     }
 
-    /// Takes a text over; a long one isn't copied.
+    /// Takes a text over; it isn't copied.
     pub fn from_string(text: String) -> Text
         ensures { result ≡ string_bytes text }
     {
@@ -62,7 +76,7 @@ impl Text {
         ensures { result ≡ bytes.items }
     {
         Text {
-            bytes: SmallVec::from_vec(bytes),
+            body: Body::Long(bytes),
         }
     }
 
@@ -70,9 +84,26 @@ impl Text {
     pub fn from_str(alloc: Global, text: &str) -> Result<Text, AllocError>
         ensures { IfOk result (λ copy. copy ≡ text.now) }
     {
-        Ok(Text {
-            bytes: SmallVec::from_slice(alloc, text.as_bytes())?,
-        })
+        if text.len() <= INSIDE {
+            return Ok(Text::short(alloc, text));
+        }
+        Ok(Text::of_vec(Vec::from_slice(alloc, text.as_bytes())?))
+    }
+
+    /// A copy of a short text.
+    fn short(alloc: Global, text: &str) -> Text
+        requires { length text.now ≤ 24 }
+        ensures { result ≡ text.now }
+    {
+        let mut bytes = [0; INSIDE];
+        bytes[..text.len()].copy_from_slice(text.as_bytes());
+        Text {
+            body: Body::Short {
+                alloc,
+                bytes,
+                len: text.len() as u8,
+            },
+        }
     }
 
     /// A copy of these bytes, or `None` where they aren't UTF-8.
@@ -90,14 +121,17 @@ impl Text {
         ensures bytes { result.now ≡ self.now }
         ensures utf8 { IsUtf8 self.now }
     {
-        self.bytes.as_slice()
+        match &self.body {
+            Body::Short { bytes, len, .. } => &bytes[..*len as usize],
+            Body::Long(bytes) => bytes,
+        }
     }
 
     pub fn as_str(&self) -> &str
         ensures bytes { result.now ≡ self.now }
         ensures utf8 { IsUtf8 self.now }
     {
-        unsafe { str::from_utf8_unchecked(self.bytes.as_slice()) }
+        unsafe { str::from_utf8_unchecked(self.as_bytes()) }
     }
 
     /// Adds a text at the end. After a refusal the text is as it was.
@@ -105,15 +139,81 @@ impl Text {
         ensures ok { OnOk result (self.new ≡ self.old ++ more.now) }
         ensures err { OnErr result (self.new ≡ self.old) }
     {
-        self.bytes.extend_from_slice(more.as_bytes())
+        if let Body::Long(bytes) = &mut self.body {
+            return bytes.extend_from_slice(more.as_bytes());
+        }
+        let bytes = joined(self.allocator(), self.as_bytes(), more.as_bytes())?;
+        self.body = Body::Long(bytes);
+        Ok(())
     }
+
+    /// What the text takes memory from.
+    fn allocator(&self) -> Global {
+        match &self.body {
+            Body::Short { alloc, .. } => *alloc,
+            Body::Long(bytes) => *bytes.allocator(),
+        }
+    }
+
+    /// The order of two short texts by their first eight bytes, where it is by them.
+    fn front_order(&self, other: &Text) -> Option<Ordering>
+        ensures { IfSome result (λ order. order ≡ by_bytes self.now other.now) }
+    {
+        match (&self.body, &other.body) {
+            (
+                Body::Short { bytes, len, .. },
+                Body::Short {
+                    bytes: others,
+                    len: many,
+                    ..
+                },
+            ) => order_short(bytes, *len, others, *many),
+            _ => None,
+        }
+    }
+}
+
+/// Bytes and others behind them.
+fn joined(alloc: Global, bytes: &[u8], more: &[u8]) -> Result<Vec<u8>, AllocError>
+    ensures { IfOk result (λ all. all.items ≡ bytes.now ++ more.now) }
+{
+    let mut all = Vec::with_capacity(alloc, bytes.len().saturating_add(more.len()))?;
+    all.extend_from_slice(bytes)?;
+    all.extend_from_slice(more)?;
+    Ok(all)
+}
+
+/// The order of two texts that have zeros behind them, by their first eight bytes, where it is by them.
+fn order_short(bytes: &[u8; INSIDE], len: u8, others: &[u8; INSIDE], many: u8) -> Option<Ordering>
+    requires first { (len ≤ 24) × (drop len bytes.now ≡ replicate (24 - len) 0) }
+    requires second { (many ≤ 24) × (drop many others.now ≡ replicate (24 - many) 0) }
+    ensures { IfSome result
+        (λ order. order ≡ by_bytes (take len bytes.now) (take many others.now)) }
+{
+    let (front, back) = (front(bytes), front(others));
+    if front != back {
+        return Some(front.cmp(&back));
+    }
+    if len <= 8 && many <= 8 {
+        return Some(len.cmp(&many));
+    }
+    None
+}
+
+/// The first eight bytes as a number.
+fn front(bytes: &[u8; INSIDE]) -> u64
+    ensures { result ≡ high_first 0 (take 8 bytes.now) }
+{
+    u64::from_be_bytes([
+        bytes[0], bytes[1], bytes[2], bytes[3], bytes[4], bytes[5], bytes[6], bytes[7],
+    ])
 }
 
 impl Clone for Text {
     ghost is_clone = { λ text copy. copy ≡ text };
 
     fn clone(&self) -> Result<Text, AllocError> {
-        Text::from_str(*self.bytes.allocator(), self.as_str())
+        Text::from_str(self.allocator(), self.as_str())
     }
 }
 
@@ -170,6 +270,9 @@ impl Ord for Text {
     ghost matches_eq = { Prim.search (comparing, rules) };
 
     fn cmp(&self, other: &Text) -> Ordering {
-        self.as_str().cmp(other.as_str())
+        match self.front_order(other) {
+            Some(order) => order,
+            None => self.as_str().cmp(other.as_str()),
+        }
     }
 }
