@@ -1,5 +1,5 @@
 -- Rules whose records tell other stamps than those that are seen, while files and records change.
-use Rattle.std.specs.Prelude.{◌≡◌, ◌⊎◌, ◌↔◌, ℕ, ◌<◌, ◌≤◌, Bool, true, false, cond, List, [], ◌∷◌, ◌++◌, Option, None, Some, Contains, Decides, length}
+use Rattle.std.specs.Prelude.{◌≡◌, ◌≢◌, ◌⊎◌, ◌↔◌, ℕ, ◌<◌, ◌≤◌, Bool, true, false, cond, List, [], ◌∷◌, ◌++◌, Option, None, Some, Contains, Decides, length}
 use Rattle.std.proofs.Common.{refl, sym, ap, subst, ◌∙◌, inl, inr, take, get_or}
 use Rattle.std.proofs.lemmas.List.{get_or_default, take_all}
 use Rattle.std.proofs.lemmas.List.Elements.{Contains-push, Contains-push_cases, Contains-append_left}
@@ -33,14 +33,17 @@ same_number n number e = (exact-decides nat_cmp_total nat_cmp-IsAntisymmetric n 
 other_number : (n number : ℕ) → eq_by_cmp nat_cmp n number ≡ false → n ≡ number → ⊥
 other_number n number e same = true_false (sym ((exact-decides nat_cmp_total nat_cmp-IsAntisymmetric n number).1 same) ∙ e)
 
--- ---- an ask was told another stamp
+-- ---- an ask was told another stamp, or a file was written with another
 
-module _ (seen : Stamps) (asks : List (Names × Option Stamp)) where
-  pub other_here : (i : ℕ) (ask d : Names × Option Stamp) → i < length asks → ask ≡ get_or asks i d → (ask.1 ≡ finite.get seen ask.0 → ⊥) → Decides true (AskedOther seen asks)
-  other_here i ask d less here other = (λ _. (ask.0, ask.1, (i, less, get_or_default asks i ask d less ∙ sym here), other), λ _. refl)
+module _ {G : Type 0} (tell : G → Option Stamp) (seen : Stamps) (told : List (Names × G)) where
+  abbrev Other : List (Names × G) → Type 0
+  Other list = (path : Names) × (given : G) × Contains list (path, given) × (tell given ≢ finite.get seen path)
 
-  pub none_other : (i : ℕ) → length asks ≤ i → (AskedOther seen (take i asks) → ⊥) → Decides false (AskedOther seen asks)
-  none_other i whole none = (λ e. absurd (true_false (sym e)), λ h. absurd (none (subst (AskedOther seen) (sym (take_all i asks whole)) h)))
+  pub other_here : (i : ℕ) (one d : Names × G) → i < length told → one ≡ get_or told i d → (tell one.1 ≡ finite.get seen one.0 → ⊥) → Decides true (Other told)
+  other_here i one d less here other = (λ _. (one.0, one.1, (i, less, get_or_default told i one d less ∙ sym here), other), λ _. refl)
+
+  pub none_other : (i : ℕ) → length told ≤ i → (Other (take i told) → ⊥) → Decides false (Other told)
+  none_other i whole none = (λ e. absurd (true_false (sym e)), λ h. absurd (none (subst Other (sym (take_all i told whole)) h)))
 
 -- ---- a file has another stamp
 

@@ -5,3 +5,4 @@ pub mod Records
 pub mod Index
 pub mod Suspects
 pub mod Passes
+pub mod Seen

@@ -13,6 +13,7 @@ mod finder;
 mod indexed;
 mod maps;
 mod passes;
+mod seen;
 mod sets;
 mod suspects;
 mod users;

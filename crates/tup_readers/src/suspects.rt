@@ -9,6 +9,7 @@ ghost use Rattle.tup_readers.specs.Index.{AreUsers, IsUserIn};
 ghost use Rattle.tup_readers.specs.Suspects.{AreSuspects, AskedOther, IsAmong, TellsOther, WroteOther};
 
 use crate::maps;
+use crate::seen::SeenFiles;
 use crate::users::Users;
 use std::alloc::{AllocError, Global};
 use std::collections::BTreeSet;
@@ -37,9 +38,12 @@ impl Suspects {
     pub(crate) fn of_nodes(alloc: Global, nodes: &Nodes) -> Result<Suspects, AllocError>
         ensures { IfOk result (AreSuspects nodes.now.seen nodes.now.runs) }
     {
+        let files = SeenFiles::listed(alloc, nodes)?;
         let mut suspects = Suspects::new(alloc);
+        let mut place = 0;
         for (number, run) in nodes.runs() {
-            suspects.look(nodes, *number, run)?;
+            place = files.place_of(place, run);
+            suspects.look(&files, place, *number, run)?;
         }
         Ok(suspects)
     }
@@ -79,7 +83,7 @@ impl Suspects {
     {
         match found {
             Record::Seen { path, .. } => self.add_users(alloc, nodes, users, path),
-            Record::Run { number, run } => self.renew(nodes, *number, run),
+            Record::Run { number, run } => self.renew(alloc, nodes, *number, run),
             _ => Ok(()),
         }
     }
@@ -108,13 +112,20 @@ impl Suspects {
     }
 
     /// A rule has this record from now on.
-    fn renew(&mut self, nodes: &Nodes, number: u32, run: &RunRecord) -> Result<(), AllocError>
+    fn renew(
+        &mut self,
+        alloc: Global,
+        nodes: &Nodes,
+        number: u32,
+        run: &RunRecord,
+    ) -> Result<(), AllocError>
         requires { AreSuspects nodes.now.seen nodes.now.runs self.old }
         ensures { OnOk result (AreSuspects nodes.now.seen
             (finite.insert nodes.now.runs number run.now) self.new) }
     {
         self.acquit(nodes, number);
-        self.look(nodes, number, run)
+        let files = SeenFiles::unlisted(alloc, nodes);
+        self.look(&files, 0, number, run)
     }
 
     /// A rule has no record from now on.
@@ -125,12 +136,18 @@ impl Suspects {
         self.remove(number);
     }
 
-    /// Adds a rule, if its record tells another stamp than that which is seen.
-    fn look(&mut self, nodes: &Nodes, number: u32, run: &RunRecord) -> Result<(), AllocError>
-        ensures { OnOk result (Adds (λ other. (other ≡ number) × TellsOther nodes.now.seen run.now)
+    /// Adds a rule, if its record tells another stamp than that which is seen. What it tells of is looked for near a place.
+    fn look(
+        &mut self,
+        files: &SeenFiles<'_>,
+        place: usize,
+        number: u32,
+        run: &RunRecord,
+    ) -> Result<(), AllocError>
+        ensures { OnOk result (Adds (λ other. (other ≡ number) × TellsOther files.now.seen run.now)
             (IsAmong self.old.numbers) (IsAmong self.new.numbers)) }
     {
-        if tells_other(nodes, run) {
+        if tells_other(files, place, run) {
             return self.add(number);
         }
         Ok(())
@@ -184,21 +201,23 @@ impl Suspects {
 }
 
 /// Whether a record tells another stamp of a path than that which is seen.
-fn tells_other(nodes: &Nodes, run: &RunRecord) -> bool
-    ensures { Decides result (TellsOther nodes.now.seen run.now) }
+fn tells_other(files: &SeenFiles<'_>, place: usize, run: &RunRecord) -> bool
+    ensures { Decides result (TellsOther files.now.seen run.now) }
 {
-    if asked_other(nodes, run.asks.as_slice()) {
+    if asked_other(files, place, run.asks.as_slice()) {
         return true;
     }
-    wrote_other(nodes, run.writes.as_slice())
+    wrote_other(files, place, run.writes.as_slice())
 }
 
 /// Whether one of some asks was told another stamp than that which is seen.
-fn asked_other(nodes: &Nodes, asks: &[(Path, Option<Stamp>)]) -> bool
-    ensures { Decides result (AskedOther nodes.now.seen asks.now) }
+fn asked_other(files: &SeenFiles<'_>, before: usize, asks: &[(Path, Option<Stamp>)]) -> bool
+    ensures { Decides result (AskedOther files.now.seen asks.now) }
 {
+    let mut place = before;
     for (path, given) in asks {
-        if !sees(nodes, path, *given) {
+        place = files.place(place, path);
+        if !sees(files, place, path, *given) {
             return true;
         }
     }
@@ -206,20 +225,22 @@ fn asked_other(nodes: &Nodes, asks: &[(Path, Option<Stamp>)]) -> bool
 }
 
 /// Whether one of some files was written with another stamp than that which is seen.
-fn wrote_other(nodes: &Nodes, files: &[(Path, Stamp)]) -> bool
-    ensures { Decides result (WroteOther nodes.now.seen files.now) }
+fn wrote_other(files: &SeenFiles<'_>, before: usize, writes: &[(Path, Stamp)]) -> bool
+    ensures { Decides result (WroteOther files.now.seen writes.now) }
 {
-    for (path, given) in files {
-        if !sees(nodes, path, Some(*given)) {
+    let mut place = before;
+    for (path, given) in writes {
+        place = files.place(place, path);
+        if !sees(files, place, path, Some(*given)) {
             return true;
         }
     }
     false
 }
 
-/// Whether a path is seen with this stamp, or with no file.
-fn sees(nodes: &Nodes, path: &Path, given: Option<Stamp>) -> bool
-    ensures { Decides result (given ≡ finite.get nodes.now.seen path.now) }
+/// Whether a path, which may have this place among the files, is seen with this stamp, or with no file.
+fn sees(files: &SeenFiles<'_>, place: usize, path: &Path, given: Option<Stamp>) -> bool
+    ensures { Decides result (given ≡ finite.get files.now.seen path.now) }
 {
-    given == nodes.seen(path)
+    given == files.at(place, path)
 }

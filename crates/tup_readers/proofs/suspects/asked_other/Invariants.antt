@@ -3,4 +3,4 @@ use Rattle.tup_readers.specs.Suspects.{AskedOther}
 use Rattle.tup_readers.proofs.suspects.asked_other.Given as goal
 
 abbrev pub invariant-loop-path : goal.invariant-loop-path
-invariant-loop-path l = AskedOther l.nodes.seen (take l.path-index l.asks) → ⊥
+invariant-loop-path l = AskedOther l.files.seen (take l.path-index l.asks) → ⊥

@@ -1,5 +1,5 @@
-use Rattle.std.proofs.Common.{◌↔◌, ℕ, Option, subst}
-use Rattle.std.specs.Prelude.{Contains, IfOk, IfSome}
+use Rattle.std.proofs.Common.{◌↔◌, Option, subst}
+use Rattle.std.specs.Prelude.{Contains, IfSome}
 use Rattle.std.proofs.lemmas.Result.{IfOk-weaker}
 use Rattle.tup_graph.specs.Above.{HasAsked}
 use Rattle.tup_graph.specs.Graph.{GraphState}

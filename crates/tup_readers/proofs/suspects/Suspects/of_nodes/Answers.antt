@@ -1,10 +1,12 @@
-use Rattle.std.proofs.Common.{List, ◌∷◌, [], ◌∙◌, ℕ, map, sym, subst}
+use Rattle.std.proofs.Common.{◌≡◌, List, ◌∷◌, [], ◌∙◌, ℕ, map, sym, subst}
 use Rattle.std.specs.FinMap as finite
 use Rattle.std.specs.Map.Iter.{deref_pair}
 use Rattle.std.proofs.lemmas.List.{map-append}
 use Rattle.std.proofs.lemmas.Map.Iter.{iter_end}
 use Rattle.tup_record.specs.declared.run.RunRecord.{RunRecord}
-use Rattle.tup_readers.specs.Suspects.{HasOthersOf}
+use Rattle.tup_graph.specs.Graph.{GraphState}
+use Rattle.tup_readers.specs.Changes.{Adds}
+use Rattle.tup_readers.specs.Suspects.{HasOthersOf, IsAmong, TellsOther}
 use Rattle.tup_readers.proofs.Suspecting.{all_looked, entry_looked, none_looked}
 use Rattle.tup_readers.proofs.suspects.Suspects.of_nodes.Goals as goal
 
@@ -14,7 +16,8 @@ loop-number-init c = none_looked c.args.nodes.now.seen c.new-suspects.result.num
 pub loop-number-preserved : goal.loop-number-preserved
 loop-number-preserved c =
     subst (λ (l : List (ℕ × RunRecord)). HasOthersOf c.args.nodes.now.seen l c.look.new.self.numbers) (sym (map-append deref_pair c.loop-number.yielded ((c.in-Some.number, c.in-Some.run') ∷ [])))
-    (entry_looked c.args.nodes.now.seen (map deref_pair c.loop-number.yielded) c.in-Some.number.now c.in-Some.run'.now c.loop-number.suspects.numbers c.look.new.self.numbers c.loop-number.invariant c.in_ok-look.ensures)
+    (entry_looked c.args.nodes.now.seen (map deref_pair c.loop-number.yielded) c.in-Some.number.now c.in-Some.run'.now c.loop-number.suspects.numbers c.look.new.self.numbers c.loop-number.invariant
+    (subst (λ (g : GraphState). Adds (λ n. (n ≡ c.in-Some.number.now) × TellsOther g.seen c.in-Some.run'.now) (IsAmong c.loop-number.suspects.numbers) (IsAmong c.look.new.self.numbers)) c.in_ok-files.ensures c.in_ok-look.ensures))
 
 pub returns : goal.returns
 returns c =
