@@ -1,5 +1,5 @@
 -- The records and the flags that rules keep, and the rules that are to be run.
-use Rattle.std.specs.Prelude.{◌≡◌, ◌⊎◌, ◌↔◌, ℕ, zero, suc, Bool, true, false, List, [], ◌∷◌, ◌++◌, Option, None, Some, Contains, is_none, length, map, option_map, option_to_list, slice_get, unwrap_or, if◌then◌else◌}
+use Rattle.std.specs.Prelude.{◌≡◌, ◌⊎◌, ◌↔◌, ℕ, zero, suc, Bool, true, false, List, [], ◌∷◌, ◌++◌, Option, None, Some, Contains, is_none, is_some, length, map, option_map, option_to_list, slice_get, unwrap_or, if◌then◌else◌}
 use Rattle.std.proofs.Common.{refl, sym, ap, subst, ◌∙◌, inl, inr, arith}
 use Rattle.std.specs.Ordering.{nat_cmp}
 use Rattle.std.specs.Cmp.{nat_cmp_total}
@@ -28,7 +28,7 @@ use Rattle.tup_rule_diff.specs.Before.{AreNumbersBefore, IsNumberBefore}
 use Rattle.tup_rule_diff.specs.Edits.{AreSwapEdits, IsRunNow, IsToRun, clear_edits, led_by, less_edits, more_edits, own_so, reading_edits, run_so}
 use Rattle.tup_rule_diff.specs.Numbered.{numbered}
 use Rattle.tup_rule_diff.specs.Owners.{AreOwned}
-use Rattle.tup_rule_diff.specs.Running.{NoneReadsNew, ReadsOneNew, flag_at, is_new_at, run_at, was_flagged}
+use Rattle.tup_rule_diff.specs.Running.{NoneReadsNew, ReadsOneNew, flag_at, had_run, is_new_at, keeps_run, run_at, was_flagged}
 use Rattle.tup_rule_diff.proofs.Leaving.{Owners, led_graph, led_is}
 use Rattle.tup_rule_diff.proofs.Looked.{before_of, rule_of}
 use Rattle.tup_rule_diff.proofs.Numbered.{had_at, is_had_at}
@@ -96,6 +96,31 @@ module _ (g : GraphState) (rules : List Rule) (befores : List (Option ℕ)) (are
   run_from number run is =
       let before = before_of g rules befores number is.0 are is.2 in
       is_had_at (run_at g) befores number before.0 (number, run) before.1 (run_so_at g is.0 number is.1 run before.0 before.2 is.3 is.4)
+
+  -- ---- the numbers under which a record is kept
+  kept_to : (number : ℕ) → keeps_run g befores number ≡ true → (run : RunRecord) × IsRunNow g rules number run
+  kept_to number e = by (slice_get befores number) refl e
+    where
+      ran : (before : ℕ) (rule : Rule) → slice_get rules number ≡ Some rule → WasAt g rule before → (found : Option RunRecord) → finite.get g.runs before ≡ found → is_some found ≡ true → (run : RunRecord) × IsRunNow g rules number run
+      ran before rule here was (Some run) is some = (run, (rule, before, here, was, is))
+      ran before rule here was None is some = absurd (let wrong : false ≡ true = some in cc)
+
+      had : (before : Option ℕ) (rule : Rule) → slice_get rules number ≡ Some rule → IsNumberBefore g rule before → had_run g before ≡ true → (run : RunRecord) × IsRunNow g rules number run
+      had None rule here new some = absurd (let wrong : false ≡ true = some in cc)
+      had (Some before) rule here was some = ran before rule here was (finite.get g.runs before) refl some
+
+      by : (one : Option (Option ℕ)) → slice_get befores number ≡ one → had_run g (unwrap_or one None) ≡ true → (run : RunRecord) × IsRunNow g rules number run
+      by None there some = absurd (let wrong : false ≡ true = some in cc)
+      by (Some before) there some = let rule = rule_of g rules befores number before are there in had before rule.0 rule.1 rule.2 some
+
+  kept_from : (number : ℕ) → (run : RunRecord) × IsRunNow g rules number run → keeps_run g befores number ≡ true
+  kept_from number (run, (rule, before, here, was, ran)) =
+      let one = before_of g rules befores number rule are here in
+      ap (λ (o : Option (Option ℕ)). had_run g (unwrap_or o None)) one.1 ∙ by one.0 one.2
+    where
+      by : (one : Option ℕ) → IsNumberBefore g rule one → had_run g one ≡ true
+      by None new = absurd (new before was.0)
+      by (Some other) is = ap is_some (ap (finite.get g.runs) (one_before g rule other before is was) ∙ ran)
 
   -- ---- flags that stay
   module _ (led : GraphState) (same : led.rules ≡ rules) where
@@ -189,19 +214,21 @@ module _ (g : GraphState) (rules : List Rule) (befores : List (Option ℕ)) (are
 
     -- ---- all edits
     pub are_edits : (fresh : List (Names × Reading)) (gone : List Names) (owned : Owners) (flags : List ℕ) (start away edits : List Edit) → AreOwned rules g.owned owned → ((n : ℕ) → Contains flags n ↔ IsToRun g (led_by rules runs) n)
-        → start ≡ [] → away ≡ start ++ clear_edits g ++ reading_edits g fresh gone ++ less_edits 0 g.rules
+        → start ≡ [] → away ≡ start ++ clear_edits (keeps_run g befores) g ++ reading_edits g fresh gone ++ less_edits (length rules) 0 g.rules
         → edits ≡ away ++ more_edits [] rules ++ map run_so runs ++ map own_so (finite.entries owned) ++ flag_edits flags → AreSwapEdits g fresh gone rules edits
     are_edits fresh gone owned flags start away edits owners to_run none first second = record {
       runs = runs;
+      kept = keeps_run g befores;
       owned = owned;
       flags = flags;
       runs_are = λ number run. (
         λ h. run_to number run (subst (λ (l : List (ℕ × RunRecord)). Contains l (number, run)) kept h),
         λ is. subst (λ (l : List (ℕ × RunRecord)). Contains l (number, run)) (sym kept) (run_from number run is),
       );
+      kept_are = λ number. (kept_to number, kept_from number);
       owned_are = owners;
       flags_are = to_run;
       all =
           second ∙ (λ i. first i ++ more_edits [] rules ++ map run_so runs ++ map own_so (finite.entries owned) ++ flag_edits flags)
-          ∙ (λ i. none i ++ clear_edits g ++ reading_edits g fresh gone ++ less_edits 0 g.rules ++ more_edits [] rules ++ map run_so runs ++ map own_so (finite.entries owned) ++ flag_edits flags);
+          ∙ (λ i. none i ++ clear_edits (keeps_run g befores) g ++ reading_edits g fresh gone ++ less_edits (length rules) 0 g.rules ++ more_edits [] rules ++ map run_so runs ++ map own_so (finite.entries owned) ++ flag_edits flags);
     }

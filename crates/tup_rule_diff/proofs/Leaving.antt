@@ -1,12 +1,11 @@
 -- What the edits of a swap leave of a graph, one kind after another.
-use Rattle.std.specs.Prelude.{◌≡◌, ◌+◌, ℕ, zero, suc, List, [], ◌∷◌, ◌++◌, Option, None, Some, fold, map, filter_map, length, take, option_map, slice_get}
+use Rattle.std.specs.Prelude.{◌≡◌, ℕ, zero, suc, Bool, true, false, cond, not, List, [], ◌∷◌, ◌++◌, Option, None, Some, fold, filter, map, filter_map, is_some, length, take, option_map, slice_get, if◌then◌else◌}
 use Rattle.std.proofs.Common.{refl, sym, ap, ◌∙◌, append_assoc, arith}
 use Rattle.std.specs.Ordering.{nat_cmp}
 use Rattle.std.specs.Cmp.{nat_cmp_total}
 use Rattle.std.specs.List.{cons_option}
 use Rattle.std.specs.FinMap as finite
 use Rattle.std.specs.FinMap.{nat_cmp-IsAntisymmetric}
-use Rattle.std.proofs.Math.Seq.{take-length}
 use Rattle.std.proofs.lemmas.List.{append-nil}
 use Rattle.std.proofs.lemmas.List.Sums.{fold-append}
 use Rattle.tup_path.specs.Name.{Names}
@@ -19,14 +18,14 @@ use Rattle.tup_record.specs.declared.run.RunRecord.{RunRecord}
 use Rattle.tup_graph.specs.declared.edit.Edit.{Edit}
 use Rattle.tup_graph.specs.declared.edit.Edit.TheVariants.{Put, Remove}
 use Rattle.tup_graph.specs.declared.owned.Owned.{Owned}
-use Rattle.tup_graph.specs.Edits.{edited, edited_by, with_first}
+use Rattle.tup_graph.specs.Edits.{edited, edited_by}
 use Rattle.tup_graph.specs.Graph.{GraphState, empty_graph}
 use Rattle.tup_graph.specs.Transactions.{flag_edits}
 use Rattle.tup_graph.proofs.Maps.{remove-absent}
 use Rattle.tup_graph.proofs.Rows.{Lacks, lacks_more}
 use Rattle.tup_closure.proofs.Members.{number-decides}
-use Rattle.tup_rule_diff.specs.Edits.{unflag, uncreate, unown, unrun, clear_edits, unread, read_so, reading_edits, less_edits, rule_less, more_edits, rule_more, place_behind, run_so, own_so, led_by}
-use Rattle.tup_rule_diff.proofs.Puts.{put_one, take_one, all_taken, all_put}
+use Rattle.tup_rule_diff.specs.Edits.{unflag, uncreate, unrun, unrun_edits, clear_edits, goes, unread, read_so, reading_edits, less_edits, rule_less, more_edits, rule_more, place_behind, run_so, own_so, led_by}
+use Rattle.tup_rule_diff.proofs.Puts.{put_one, take_one, all_taken, all_put, find_passed, get_taken, put_anew}
 
 abbrev pub Runs : Type 0
 Runs = finite.FinMap nat_cmp RunRecord
@@ -53,36 +52,51 @@ uncreates : (h : GraphState) (es : List (Names × Unit {0})) → edited_by h (ma
 uncreates h [] = refl
 uncreates h (e ∷ es) = uncreates (edited h (uncreate e)) es
 
-unowns : (h : GraphState) (es : List (Names × Owned)) → edited_by h (map unown es) ≡ record h { owned = fold (take_one by_names-total by_names-antisymmetric by_names-decides) h.owned es }
-unowns h [] = refl
-unowns h (e ∷ es) = unowns (edited h (unown e)) es
-
-unruns : (h : GraphState) (es : List (ℕ × RunRecord)) → edited_by h (map unrun es) ≡ record h { runs = fold (take_one nat_cmp_total nat_cmp-IsAntisymmetric number-decides) h.runs es }
+pub unruns : (h : GraphState) (es : List (ℕ × RunRecord)) → edited_by h (map unrun es) ≡ record h { runs = fold (take_one nat_cmp_total nat_cmp-IsAntisymmetric number-decides) h.runs es }
 unruns h [] = refl
 unruns h (e ∷ es) = unruns (edited h (unrun e)) es
 
-abbrev pub cleared : GraphState → GraphState
-cleared g = record g { flags = finite.empty; created = finite.empty; owned = finite.empty; runs = finite.empty }
+-- the entries of a map whose keys are kept aside
+abbrev pub others : (ℕ → Bool) → Runs → List (ℕ × RunRecord)
+others kept runs = filter (λ (run : ℕ × RunRecord). not (kept run.0)) (finite.entries runs)
+
+-- the records that are left
+abbrev pub left : (ℕ → Bool) → Runs → Runs
+left kept runs = fold (take_one nat_cmp_total nat_cmp-IsAntisymmetric number-decides) runs (others kept runs)
+
+-- they are those that are kept
+none_else : (b : Bool) (found : Option RunRecord) → b ≡ false → cond (is_some (cond (not b) found None)) None found ≡ None
+none_else b found e = ap (λ (c : Bool). cond (is_some (cond (not c) found None)) None found) e ∙ by found
+  where
+    by : (one : Option RunRecord) → cond (is_some (cond (not false) one None)) None one ≡ None
+    by None = refl
+    by (Some run) = refl
+
+pub none_left : (kept : ℕ → Bool) (runs : Runs) (q : ℕ) → kept q ≡ false → finite.get (left kept runs) q ≡ None
+none_left kept runs q not_kept =
+    get_taken nat_cmp_total nat_cmp-IsAntisymmetric number-decides (others kept runs) runs q
+    ∙ ap (λ (found : Option RunRecord). cond (is_some found) None (finite.get runs q))
+    (find_passed nat_cmp_total nat_cmp-IsAntisymmetric number-decides (λ n. not (kept n)) (finite.entries runs) q ∙ ap (λ (found : Option RunRecord). cond (not (kept q)) found None) (sym (finite.get-entries runs q)))
+    ∙ none_else (kept q) (finite.get runs q) not_kept
+
+abbrev pub cleared : (ℕ → Bool) → GraphState → GraphState
+cleared kept g = record g { flags = finite.empty; created = finite.empty; runs = left kept g.runs }
 
 module _ (g : GraphState) where
   abbrev one_cleared : GraphState
   one_cleared = record g { flags = finite.empty }
 
-  abbrev two_cleared : GraphState
+  abbrev pub two_cleared : GraphState
   two_cleared = record g { flags = finite.empty; created = finite.empty }
 
-  abbrev three_cleared : GraphState
-  three_cleared = record g { flags = finite.empty; created = finite.empty; owned = finite.empty }
-
-  pub clears : edited_by g (clear_edits g) ≡ cleared g
-  clears =
-      both g three_cleared (cleared g) (map unflag (finite.entries g.flags) ++ map uncreate (finite.entries g.created) ++ map unown (finite.entries g.owned)) (map unrun (finite.entries g.runs))
-      (both g two_cleared three_cleared (map unflag (finite.entries g.flags) ++ map uncreate (finite.entries g.created)) (map unown (finite.entries g.owned))
-      (both g one_cleared two_cleared (map unflag (finite.entries g.flags)) (map uncreate (finite.entries g.created))
+  pub clears_two : edited_by g (map unflag (finite.entries g.flags) ++ map uncreate (finite.entries g.created)) ≡ two_cleared
+  clears_two =
+      both g one_cleared two_cleared (map unflag (finite.entries g.flags)) (map uncreate (finite.entries g.created))
       (unflags g (finite.entries g.flags) ∙ ap (λ m. record g { flags = m }) (all_taken nat_cmp_total nat_cmp-IsAntisymmetric number-decides g.flags))
-      (uncreates one_cleared (finite.entries g.created) ∙ ap (λ m. record one_cleared { created = m }) (all_taken by_names-total by_names-antisymmetric by_names-decides g.created)))
-      (unowns two_cleared (finite.entries g.owned) ∙ ap (λ m. record two_cleared { owned = m }) (all_taken by_names-total by_names-antisymmetric by_names-decides g.owned)))
-      (unruns three_cleared (finite.entries g.runs) ∙ ap (λ m. record three_cleared { runs = m }) (all_taken nat_cmp_total nat_cmp-IsAntisymmetric number-decides g.runs))
+      (uncreates one_cleared (finite.entries g.created) ∙ ap (λ m. record one_cleared { created = m }) (all_taken by_names-total by_names-antisymmetric by_names-decides g.created))
+
+  pub clears : (kept : ℕ → Bool) → edited_by g (clear_edits kept g) ≡ cleared kept g
+  clears kept = both g two_cleared (cleared kept g) (map unflag (finite.entries g.flags) ++ map uncreate (finite.entries g.created)) (unrun_edits kept (finite.entries g.runs)) clears_two (unruns two_cleared (others kept g.runs))
 
 -- ---- readings
 abbrev pub readings_after : GraphState → List (Names × Reading) → List Names → Readings
@@ -112,25 +126,25 @@ module _ (g : GraphState) where
       ∙ ap (λ (m : Readings). record h { readings = fold (put_one by_names-total by_names-antisymmetric by_names-decides) (fold finite.remove m gone) fresh }) same)
 
 -- ---- rules
-module _ {X : Type 0} where
-  take_take : (n : ℕ) (xs : List X) → take n (take (suc n) xs) ≡ take n xs
-  take_take zero xs = refl
-  take_take (suc n) [] = refl
-  take_take (suc n) (x ∷ xs) = ap (λ (l : List X). x ∷ l) (take_take n xs)
+-- what rules go by leaves some rules and some places, and where the first one goes none
+shorter : (h : GraphState) (count n : ℕ) (rules : List Rule) → (some : List Rule) × (places : List ℕ) × (edited_by h (less_edits count n rules) ≡ record h { rules = some; places = places })
+shorter h count n [] = (h.rules, h.places, refl)
+shorter h count n (rule ∷ rules) = by (goes count n) (shorter h count (suc n) rules)
+  where
+    by : (b : Bool) → (some : List Rule) × (places : List ℕ) × (edited_by h (less_edits count (suc n) rules) ≡ record h { rules = some; places = places })
+        → (some : List Rule) × (places : List ℕ) × (edited_by h (less_edits count (suc n) rules ++ (if b then rule_less n ∷ [] else [])) ≡ record h { rules = some; places = places })
+    by true (some, places, is) = (take n some, take n places, both h (record h { rules = some; places = places }) (record h { rules = take n some; places = take n places }) (less_edits count (suc n) rules) (rule_less n ∷ []) is refl)
+    by false (some, places, is) = (some, places, both h (record h { rules = some; places = places }) (record h { rules = some; places = places }) (less_edits count (suc n) rules) [] is refl)
 
-whole : (h : GraphState) (n : ℕ) → length h.rules ≡ n → length h.places ≡ n → with_first h n ≡ h
-whole h n rules places = λ i. record h {
-  rules = (ap (λ (k : ℕ). take k h.rules) (sym rules) ∙ take-length h.rules) i;
-  places = (ap (λ (k : ℕ). take k h.places) (sym places) ∙ take-length h.places) i;
-}
-
-first_of_first : (h : GraphState) (n : ℕ) → with_first (with_first h (suc n)) n ≡ with_first h n
-first_of_first h n = λ i. record h { rules = take_take n h.rules i; places = take_take n h.places i }
-
-pub less_leaves : (h : GraphState) (n : ℕ) (rules : List Rule) → length h.rules ≡ n + length rules → length h.places ≡ n + length rules → edited_by h (less_edits n rules) ≡ with_first h n
-less_leaves h n [] many level = sym (whole h n (omega (arith, many)) (omega (arith, level)))
-less_leaves h n (rule ∷ rules) many level =
-    both h (with_first h (suc n)) (with_first h n) (less_edits (suc n) rules) (rule_less n ∷ []) (less_leaves h (suc n) rules (omega (arith, many)) (omega (arith, level))) (first_of_first h n)
+pub less_leaves : (h : GraphState) (count : ℕ) → length h.places ≡ length h.rules → edited_by h (less_edits count 0 h.rules) ≡ record h { rules = []; places = [] }
+less_leaves h count level = by h.rules h.places refl refl level
+  where
+    by : (rules : List Rule) (places : List ℕ) → h.rules ≡ rules → h.places ≡ places → length places ≡ length rules → edited_by h (less_edits count 0 rules) ≡ record h { rules = []; places = [] }
+    by [] [] none no_places level = λ i. record h { rules = none i; places = no_places i }
+    by [] (place ∷ places) none some level = absurd (omega (arith, level))
+    by (rule ∷ rules) places some are level =
+        let rest = shorter h count 1 rules in
+        both h (record h { rules = rest.0; places = rest.1 }) (record h { rules = []; places = [] }) (less_edits count 1 rules) (rule_less 0 ∷ []) rest.2 refl
 
 -- the places of rules behind others
 abbrev pub places_behind : List Rule → List Rule → List ℕ
@@ -185,58 +199,98 @@ led_is rules runs =
     both empty_graph (record empty_graph { rules = rules; places = places_behind [] rules }) (led_graph rules runs) (more_edits [] rules) (map run_so runs) (more_leaves empty_graph [] rules)
     (run_leaves (record empty_graph { rules = rules; places = places_behind [] rules }) runs)
 
--- ---- all of it
+-- ---- all of it, where these edits take away what goes, and leave these owned paths and records
 module _ (g : GraphState) (fresh : List (Names × Reading)) (gone : List Names) (rules : List Rule) (runs : List (ℕ × RunRecord)) (owned : Owners) (flags : List ℕ) where
-  abbrev pub read_anew : GraphState
-  read_anew = record g { flags = finite.empty; created = finite.empty; owned = finite.empty; runs = finite.empty; readings = readings_after g fresh gone }
-
-  abbrev pub bare : GraphState
-  bare = record g { flags = finite.empty; created = finite.empty; owned = finite.empty; runs = finite.empty; readings = readings_after g fresh gone; rules = []; places = [] }
-
-  abbrev pub ruled : GraphState
-  ruled = record g { flags = finite.empty; created = finite.empty; owned = finite.empty; runs = finite.empty; readings = readings_after g fresh gone; rules = rules; places = places_behind [] rules }
-
-  abbrev pub run_again : GraphState
-  run_again = record g { flags = finite.empty; created = finite.empty; owned = finite.empty; runs = runs_after runs; readings = readings_after g fresh gone; rules = rules; places = places_behind [] rules }
-
-  abbrev pub owned_again : GraphState
-  owned_again = record g { flags = finite.empty; created = finite.empty; owned = owned; runs = runs_after runs; readings = readings_after g fresh gone; rules = rules; places = places_behind [] rules }
-
   abbrev pub swapped : GraphState
   swapped = record g { flags = flags_after flags; created = finite.empty; owned = owned; runs = runs_after runs; readings = readings_after g fresh gone; rules = rules; places = places_behind [] rules }
 
-  abbrev pub read_edits : List Edit
-  read_edits = clear_edits g ++ reading_edits g fresh gone
+  module _ (clear less : List Edit) (owned_left : Owners) (runs_left : Runs) where
+    abbrev pub at_first : GraphState
+    at_first = record g { flags = finite.empty; created = finite.empty; owned = owned_left; runs = runs_left }
 
-  abbrev pub bare_edits : List Edit
-  bare_edits = clear_edits g ++ reading_edits g fresh gone ++ less_edits 0 g.rules
+    abbrev pub read_anew : GraphState
+    read_anew = record g { flags = finite.empty; created = finite.empty; owned = owned_left; runs = runs_left; readings = readings_after g fresh gone }
 
-  abbrev pub rule_edits : List Edit
-  rule_edits = clear_edits g ++ reading_edits g fresh gone ++ less_edits 0 g.rules ++ more_edits [] rules
+    abbrev pub bare : GraphState
+    bare = record g { flags = finite.empty; created = finite.empty; owned = owned_left; runs = runs_left; readings = readings_after g fresh gone; rules = []; places = [] }
 
-  abbrev pub run_edits : List Edit
-  run_edits = clear_edits g ++ reading_edits g fresh gone ++ less_edits 0 g.rules ++ more_edits [] rules ++ map run_so runs
+    abbrev pub ruled : GraphState
+    ruled = record g { flags = finite.empty; created = finite.empty; owned = owned_left; runs = runs_left; readings = readings_after g fresh gone; rules = rules; places = places_behind [] rules }
 
-  abbrev pub owned_edits : List Edit
-  owned_edits = clear_edits g ++ reading_edits g fresh gone ++ less_edits 0 g.rules ++ more_edits [] rules ++ map run_so runs ++ map own_so (finite.entries owned)
+    abbrev pub run_again : GraphState
+    run_again = record g {
+      flags = finite.empty;
+      created = finite.empty;
+      owned = owned_left;
+      runs = fold (put_one nat_cmp_total nat_cmp-IsAntisymmetric number-decides) runs_left runs;
+      readings = readings_after g fresh gone;
+      rules = rules;
+      places = places_behind [] rules;
+    }
 
-  pub leaves_read : edited_by g read_edits ≡ read_anew
-  leaves_read = both g (cleared g) read_anew (clear_edits g) (reading_edits g fresh gone) (clears g) (reading_leaves g (cleared g) refl fresh gone)
+    abbrev pub owned_again : GraphState
+    owned_again = record g {
+      flags = finite.empty;
+      created = finite.empty;
+      owned = fold (put_one by_names-total by_names-antisymmetric by_names-decides) owned_left (finite.entries owned);
+      runs = fold (put_one nat_cmp_total nat_cmp-IsAntisymmetric number-decides) runs_left runs;
+      readings = readings_after g fresh gone;
+      rules = rules;
+      places = places_behind [] rules;
+    }
 
-  module _ (level : length g.places ≡ length g.rules) where
-    pub leaves_bare : edited_by g bare_edits ≡ bare
-    leaves_bare = both g read_anew bare read_edits (less_edits 0 g.rules) leaves_read (less_leaves read_anew 0 g.rules (omega arith) (omega (arith, level)))
+    abbrev pub at_last : GraphState
+    at_last = record owned_again { flags = flags_after flags }
 
-    pub leaves_ruled : edited_by g rule_edits ≡ ruled
-    leaves_ruled = both g bare ruled bare_edits (more_edits [] rules) leaves_bare (more_leaves bare [] rules)
+    abbrev pub edits_of : List Edit
+    edits_of = clear ++ reading_edits g fresh gone ++ less ++ more_edits [] rules ++ map run_so runs ++ map own_so (finite.entries owned) ++ flag_edits flags
 
-    pub leaves_run : edited_by g run_edits ≡ run_again
-    leaves_run = both g ruled run_again rule_edits (map run_so runs) leaves_ruled (run_leaves ruled runs)
+    module _ (clears_so : edited_by g clear ≡ at_first) (lessens : edited_by read_anew less ≡ bare) where
+      pub leaves_read : edited_by g (clear ++ reading_edits g fresh gone) ≡ read_anew
+      leaves_read = both g at_first read_anew clear (reading_edits g fresh gone) clears_so (reading_leaves g at_first refl fresh gone)
 
-    pub leaves_owned : edited_by g owned_edits ≡ owned_again
-    leaves_owned =
-        both g run_again owned_again run_edits (map own_so (finite.entries owned)) leaves_run
-        (own_leaves run_again (finite.entries owned) ∙ ap (λ (m : Owners). record run_again { owned = m }) (all_put by_names-total by_names-antisymmetric by_names-decides owned))
+      pub leaves_bare : edited_by g (clear ++ reading_edits g fresh gone ++ less) ≡ bare
+      leaves_bare = both g read_anew bare (clear ++ reading_edits g fresh gone) less leaves_read lessens
 
-    pub swap_leaves : edited_by g (clear_edits g ++ reading_edits g fresh gone ++ less_edits 0 g.rules ++ more_edits [] rules ++ map run_so runs ++ map own_so (finite.entries owned) ++ flag_edits flags) ≡ swapped
-    swap_leaves = both g owned_again swapped owned_edits (flag_edits flags) leaves_owned (flag_leaves owned_again flags)
+      pub leaves_ruled : edited_by g (clear ++ reading_edits g fresh gone ++ less ++ more_edits [] rules) ≡ ruled
+      leaves_ruled = both g bare ruled (clear ++ reading_edits g fresh gone ++ less) (more_edits [] rules) leaves_bare (more_leaves bare [] rules)
+
+      pub leaves_run : edited_by g (clear ++ reading_edits g fresh gone ++ less ++ more_edits [] rules ++ map run_so runs) ≡ run_again
+      leaves_run = both g ruled run_again (clear ++ reading_edits g fresh gone ++ less ++ more_edits [] rules) (map run_so runs) leaves_ruled (run_leaves ruled runs)
+
+      pub leaves_owned : edited_by g (clear ++ reading_edits g fresh gone ++ less ++ more_edits [] rules ++ map run_so runs ++ map own_so (finite.entries owned)) ≡ owned_again
+      leaves_owned =
+          both g run_again owned_again (clear ++ reading_edits g fresh gone ++ less ++ more_edits [] rules ++ map run_so runs) (map own_so (finite.entries owned)) leaves_run (own_leaves run_again (finite.entries owned))
+
+      pub leaves_all : edited_by g edits_of ≡ at_last
+      leaves_all =
+          both g owned_again at_last (clear ++ reading_edits g fresh gone ++ less ++ more_edits [] rules ++ map run_so runs ++ map own_so (finite.entries owned)) (flag_edits flags) leaves_owned (flag_leaves owned_again flags)
+
+    -- where nothing is left that doesn't come again, it is the graph that a swap leaves
+    module _ (runs_come : (q : ℕ) → finite.get (runs_after runs) q ≡ None → finite.get runs_left q ≡ None) (owned_come : (q : Names) → finite.get owned q ≡ None → finite.get owned_left q ≡ None) where
+      pub is_last : at_last ≡ swapped
+      is_last = λ i. record g {
+        flags = flags_after flags;
+        created = finite.empty;
+        owned = (put_anew by_names-total by_names-antisymmetric by_names-decides (finite.entries owned) owned_left (λ q none. owned_come q (ap (λ (m : Owners). finite.get m q) (sym (all_put by_names-total by_names-antisymmetric by_names-decides owned)) ∙ none))
+            ∙ all_put by_names-total by_names-antisymmetric by_names-decides owned) i;
+        runs = put_anew nat_cmp_total nat_cmp-IsAntisymmetric number-decides runs runs_left runs_come i;
+        readings = readings_after g fresh gone;
+        rules = rules;
+        places = places_behind [] rules;
+      }
+
+  -- ---- what the edits of a swap leave
+  module _ (kept : ℕ → Bool) (kept_come : (number : ℕ) → kept number ≡ true → finite.get (runs_after runs) number ≡ None → ⊥) (owned_come : (q : Names) → finite.get owned q ≡ None → finite.get g.owned q ≡ None) where
+    runs_come : (q : ℕ) → finite.get (runs_after runs) q ≡ None → finite.get (left kept g.runs) q ≡ None
+    runs_come q none = none_left kept g.runs q (by (kept q) refl)
+      where
+        by : (b : Bool) → kept q ≡ b → b ≡ false
+        by true is = absurd (kept_come q is none)
+        by false is = refl
+
+    pub swap_leaves : length g.places ≡ length g.rules → edited_by g (edits_of (clear_edits kept g) (less_edits (length rules) 0 g.rules) g.owned (left kept g.runs)) ≡ swapped
+    swap_leaves level =
+        leaves_all (clear_edits kept g) (less_edits (length rules) 0 g.rules) g.owned (left kept g.runs) (clears g kept)
+        (less_leaves (read_anew (clear_edits kept g) (less_edits (length rules) 0 g.rules) g.owned (left kept g.runs)) (length rules) level)
+        ∙ is_last (clear_edits kept g) (less_edits (length rules) 0 g.rules) g.owned (left kept g.runs) runs_come owned_come

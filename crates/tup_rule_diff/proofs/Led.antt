@@ -1,5 +1,5 @@
 -- The graph of the rules and of the records that they keep, and the steps of a swap.
-use Rattle.std.specs.Prelude.{◌≡◌, ◌⊎◌, ◌↔◌, ℕ, List, Option, None, Some, Contains, length, slice_get}
+use Rattle.std.specs.Prelude.{◌≡◌, ◌↔◌, ℕ, List, Option, None, Some, Contains, length, slice_get}
 use Rattle.std.proofs.Common.{refl, sym, ap, subst, ◌∙◌, inl, inr}
 use Rattle.std.specs.Ordering.{nat_cmp}
 use Rattle.std.specs.Cmp.{nat_cmp_total}
@@ -22,9 +22,9 @@ use Rattle.tup_rule_diff.specs.Edits.{AreSwapEdits, IsLed, IsRunNow, SwapStepped
 use Rattle.tup_rule_diff.specs.Numbered.{numbered}
 use Rattle.tup_rule_diff.specs.Running.{run_at}
 use Rattle.tup_rule_diff.proofs.Kept.{run_from, run_to}
-use Rattle.tup_rule_diff.proofs.Leaving.{led_graph, led_is, runs_after, swap_leaves, swapped}
+use Rattle.tup_rule_diff.proofs.Leaving.{led_graph, led_is, runs_after, swapped}
 use Rattle.tup_rule_diff.proofs.Puts.{put_there, there_put}
-use Rattle.tup_rule_diff.proofs.Swapping.{one_before}
+use Rattle.tup_rule_diff.proofs.Swapping.{edits_leave, one_before}
 
 -- who reads an output of a new rule does so in a graph with the same rules and records
 reads_as : (g a b : GraphState) → a.rules ≡ b.rules → a.runs ≡ b.runs → (n : ℕ) → ReadsNew g a n → ReadsNew g b n
@@ -107,7 +107,7 @@ module _ (g : GraphState) (rules : List Rule) where
   -- the graph that a swap leaves is one
   pub edits_lead : (fresh : List (Names × Reading)) (gone : List Names) (edits : List Edit) → AreSwapEdits g fresh gone rules edits → length g.places ≡ length g.rules → IsLed g rules (edited_by g edits)
   edits_lead fresh gone edits are level =
-      subst (IsLed g rules) (sym (ap (edited_by g) are.all ∙ swap_leaves g fresh gone rules are.runs are.owned are.flags level))
+      subst (IsLed g rules) (sym (edits_leave g fresh gone rules edits are level))
       (leads are.runs are.runs_are (swapped g fresh gone rules are.runs are.owned are.flags) refl refl)
 
   module _ (befores : List (Option ℕ)) (are : AreNumbersBefore g rules befores) (runs : List (ℕ × RunRecord)) (kept : runs ≡ numbered (run_at g) 0 befores) where

@@ -1,6 +1,8 @@
 mod Pushing
 mod Puts
 mod Leaving
+mod Whole
+mod Covered
 mod Swapping
 mod Taking
 mod Numbered

@@ -1,35 +1,61 @@
--- Rules that go one after another, and rules that come, each with its place.
-use Rattle.std.specs.Prelude.{◌≡◌, ◌+◌, ◌-◌, ◌<◌, ◌≤◌, ℕ, zero, suc, Bool, true, false, cond, List, [], ◌∷◌, ◌++◌, count_by, drop, length, take, if◌then◌else◌}
+-- What goes, one after another, and rules that come, each with its place.
+use Rattle.std.specs.Prelude.{◌≡◌, ◌+◌, ◌-◌, ◌<◌, ◌≤◌, ℕ, zero, suc, Bool, true, false, cond, not, List, [], ◌∷◌, ◌++◌, count_by, drop, filter, length, map, take, if◌then◌else◌}
 use Rattle.std.proofs.Common.{refl, sym, ap, subst, ◌∙◌, append_assoc, length-append, get_or, arith}
-use Rattle.std.proofs.lemmas.List.{append-nil, length-take-le}
+use Rattle.std.proofs.lemmas.List.{append-nil, length-take-le, map-append}
+use Rattle.std.proofs.lemmas.List.Elements.{filter-append}
 use Rattle.tup_path.specs.Name.{Names}
 use Rattle.tup_path.specs.Order.{same_path}
 use Rattle.tup_path.proofs.Same.{same_path-decides}
 use Rattle.tup_rule.specs.declared.rule.Rule.{Rule}
+use Rattle.tup_record.specs.declared.run.RunRecord.{RunRecord}
 use Rattle.tup_graph.specs.declared.edit.Edit.{Edit}
 use Rattle.tup_closure.specs.Lists.{list_of}
 use Rattle.tup_closure.specs.declared.lists.Lists.{Lists}
 use Rattle.tup_closure.proofs.Asked.{taken}
 use Rattle.tup_rule_diff.specs.Before.{count_of}
-use Rattle.tup_rule_diff.specs.Edits.{less_edits, more_edits, rule_less, rule_more, place_behind}
+use Rattle.tup_rule_diff.specs.Edits.{goes, less_edits, more_edits, rule_less, rule_more, place_behind, run_less, unrun, unrun_edits}
 use Rattle.tup_rule_diff.proofs.Pushing.{behind}
 use Rattle.tup_rule_diff.proofs.Taking.{one_more}
 
--- ---- rules that go, the last one first
-less_at : (number n : ℕ) (rules : List Rule) → n < length rules → less_edits number (drop n rules) ≡ less_edits (suc number) (drop (suc n) rules) ++ rule_less number ∷ []
-less_at number zero [] less = absurd (omega (arith, less))
-less_at number zero (rule ∷ rules) less = refl
-less_at number (suc n) [] less = absurd (omega (arith, less))
-less_at number (suc n) (rule ∷ rules) less = less_at number n rules (omega (arith, less))
+-- ---- records that go
+abbrev aside : (ℕ → Bool) → ℕ × RunRecord → Bool
+aside kept run = not (kept run.0)
 
-pub less_more : (rules : List Rule) (at : ℕ) (start edits new : List Edit) → 0 < at → at ≤ length rules → edits ≡ start ++ less_edits at (drop at rules) → new ≡ edits ++ rule_less (at - 1) ∷ [] → new ≡ start ++ less_edits (at - 1) (drop (at - 1) rules)
-less_more rules zero start edits new some within so_far is = absurd (omega (arith, some))
-less_more rules (suc n) start edits new some within so_far is =
+unrun_push : {A : Type 0} (kept : ℕ → Bool) (read : A → ℕ × RunRecord) (items : List A) (item : A) → unrun_edits kept (map read (items ++ item ∷ [])) ≡ unrun_edits kept (map read items) ++ (if kept (read item).0 then [] else run_less (read item).0 ∷ [])
+unrun_push {A} kept read items item =
+    ap (unrun_edits kept) (map-append read items (item ∷ []))
+    ∙ ap (map unrun) (filter-append (aside kept) (map read items) (read item ∷ []))
+    ∙ map-append unrun (filter (aside kept) (map read items)) (filter (aside kept) (read item ∷ []))
+    ∙ ap (λ (l : List Edit). map unrun (filter (aside kept) (map read items)) ++ l) (one (kept (read item).0))
+  where
+    one : (b : Bool) → map unrun (cond (not b) (read item ∷ []) []) ≡ (if b then [] else run_less (read item).0 ∷ [])
+    one true = refl
+    one false = refl
+
+pub unrun_more : {A : Type 0} (kept : ℕ → Bool) (read : A → ℕ × RunRecord) (start so_far new : List Edit) (items : List A) (item : A) → so_far ≡ start ++ unrun_edits kept (map read items)
+    → new ≡ so_far ++ (if kept (read item).0 then [] else run_less (read item).0 ∷ []) → new ≡ start ++ unrun_edits kept (map read (items ++ item ∷ []))
+unrun_more kept read start so_far new items item first second =
+    behind start so_far new (unrun_edits kept (map read items)) (if kept (read item).0 then [] else run_less (read item).0 ∷ []) first second ∙ ap (λ (l : List Edit). start ++ l) (sym (unrun_push kept read items item))
+
+-- ---- rules that go, the last one first
+abbrev less_one : ℕ → ℕ → List Edit
+less_one count number = if goes count number then rule_less number ∷ [] else []
+
+less_at : (count number n : ℕ) (rules : List Rule) → n < length rules → less_edits count number (drop n rules) ≡ less_edits count (suc number) (drop (suc n) rules) ++ less_one count number
+less_at count number zero [] less = absurd (omega (arith, less))
+less_at count number zero (rule ∷ rules) less = refl
+less_at count number (suc n) [] less = absurd (omega (arith, less))
+less_at count number (suc n) (rule ∷ rules) less = less_at count number n rules (omega (arith, less))
+
+pub less_more : (count : ℕ) (rules : List Rule) (at : ℕ) (start edits new : List Edit) → 0 < at → at ≤ length rules → edits ≡ start ++ less_edits count at (drop at rules)
+    → new ≡ edits ++ (if goes count (at - 1) then rule_less (at - 1) ∷ [] else []) → new ≡ start ++ less_edits count (at - 1) (drop (at - 1) rules)
+less_more count rules zero start edits new some within so_far is = absurd (omega (arith, some))
+less_more count rules (suc n) start edits new some within so_far is =
     let back : suc n - 1 ≡ n = omega arith in
-    behind start edits new (less_edits (suc n) (drop (suc n) rules)) (rule_less (suc n - 1) ∷ []) so_far is
-    ∙ (λ k. start ++ (less_edits (suc n) (drop (suc n) rules) ++ rule_less (back k) ∷ []))
-    ∙ ap (λ (l : List Edit). start ++ l) (sym (less_at n n rules (omega (arith, within))))
-    ∙ (λ k. start ++ less_edits (sym back k) (drop (sym back k) rules))
+    behind start edits new (less_edits count (suc n) (drop (suc n) rules)) (less_one count (suc n - 1)) so_far is
+    ∙ (λ k. start ++ (less_edits count (suc n) (drop (suc n) rules) ++ less_one count (back k)))
+    ∙ ap (λ (l : List Edit). start ++ l) (sym (less_at count n n rules (omega (arith, within))))
+    ∙ (λ k. start ++ less_edits count (sym back k) (drop (sym back k) rules))
 
 -- ---- rules that come
 edits_push : (before rules : List Rule) (rule : Rule) → more_edits before (rules ++ rule ∷ []) ≡ more_edits before rules ++ rule_more (length (before ++ rules)) (place_behind (before ++ rules) rule) rule ∷ []

@@ -1,5 +1,5 @@
 -- Finite maps into which entries are put one after another, and from which they are taken.
-use Rattle.std.specs.Prelude.{◌≡◌, ◌⊎◌, Bool, true, false, cond, List, [], ◌∷◌, Option, None, Some, Contains, Decides, fold, is_some}
+use Rattle.std.specs.Prelude.{◌≡◌, ◌⊎◌, Bool, true, false, cond, List, [], ◌∷◌, Option, None, Some, Contains, Decides, filter, fold, is_some}
 use Rattle.std.proofs.Common.{refl, sym, ap, subst, ◌∙◌, inl, inr}
 use Rattle.std.specs.declared.cmp.Ordering.{Ordering}
 use Rattle.std.specs.declared.cmp.Ordering.TheVariants.{Less, Equal, Greater}
@@ -37,12 +37,20 @@ module _ {K X : Type 0} {R : K → K → Ordering} (o : IsTotalOrder R) (exact :
   still_none f true x (Some y) got = refl
   still_none f false x found got = refl
 
-  get_taken : (es : List (K × X)) (m : FinMap R X) (q : K) → finite.get (fold take_one m es) q ≡ cond (is_some (find R q es)) None (finite.get m q)
+  pub get_taken : (es : List (K × X)) (m : FinMap R X) (q : K) → finite.get (fold take_one m es) q ≡ cond (is_some (find R q es)) None (finite.get m q)
   get_taken [] m q = refl
   get_taken (e ∷ es) m q =
       get_taken es (take_one m e) q
       ∙ ap (cond (is_some (find R q es)) None) (finite.get-remove o m e.0 q)
       ∙ still_none true (eq_by_cmp R q e.0) e.1 (find R q es) (finite.get m q)
+
+  none_left : (found old : Option X) → (found ≡ None → old ≡ None) → cond (is_some found) None old ≡ None
+  none_left (Some x) old none = refl
+  none_left None old none = none refl
+
+  -- nothing is left where all that a map has is taken
+  pub all_gone : (es : List (K × X)) (m : FinMap R X) → ((q : K) → find R q es ≡ None → finite.get m q ≡ None) → fold take_one m es ≡ finite.empty
+  all_gone es m none = finite.same_map o exact _ _ (λ q. get_taken es m q ∙ none_left (find R q es) (finite.get m q) (none q) ∙ sym (finite.get-empty R q))
 
   nothing_left : (found : Option X) → cond (is_some found) None found ≡ None
   nothing_left None = refl
@@ -96,6 +104,66 @@ module _ {K X : Type 0} {R : K → K → Ordering} (o : IsTotalOrder R) (exact :
   all_put m = finite.same_map o exact _ _ (λ q.
       get_put (finite.entries m) (once_sorted m) finite.empty q
       ∙ ap (first_or (find R q (finite.entries m))) (finite.get-empty R q) ∙ or_none (find R q (finite.entries m)) ∙ sym (finite.get-entries m q))
+
+  -- ---- what is put counts, whatever was there
+  split : (found : Option X) (b : Bool) (x : X) (got : Option X) → first_or found (cond b (Some x) got) ≡ first_or (first_or found (cond b (Some x) None)) got
+  split (Some y) b x got = refl
+  split None true x got = refl
+  split None false x got = refl
+
+  pub put_over : (es : List (K × X)) (m : FinMap R X) (q : K) → finite.get (fold put_one m es) q ≡ first_or (finite.get (fold put_one finite.empty es) q) (finite.get m q)
+  put_over [] m q = ap (λ (found : Option X). first_or found (finite.get m q)) (sym (finite.get-empty R q))
+  put_over (e ∷ es) m q =
+      let found = finite.get (fold put_one finite.empty es) q in
+      put_over es (put_one m e) q
+      ∙ ap (first_or found) (finite.get-insert o m e.0 e.1 q)
+      ∙ split found (eq_by_cmp R q e.0) e.1 (finite.get m q)
+      ∙ ap (λ (one : Option X). first_or one (finite.get m q))
+      (sym (put_over es (put_one finite.empty e) q ∙ ap (first_or found) (finite.get-insert o finite.empty e.0 e.1 q ∙ ap (cond (eq_by_cmp R q e.0) (Some e.1)) (finite.get-empty R q))))
+
+  none_under : (found old : Option X) → (found ≡ None → old ≡ None) → first_or found old ≡ found
+  none_under (Some x) old none = refl
+  none_under None old none = none refl
+
+  -- where a map has nothing but under keys that are put, it is as if it had been empty
+  pub put_anew : (es : List (K × X)) (m : FinMap R X) → ((q : K) → finite.get (fold put_one finite.empty es) q ≡ None → finite.get m q ≡ None) → fold put_one m es ≡ fold put_one finite.empty es
+  put_anew es m none = finite.same_map o exact _ _ (λ q. put_over es m q ∙ none_under (finite.get (fold put_one finite.empty es) q) (finite.get m q) (none q))
+
+  -- ---- the entries whose keys pass a test
+  abbrev nothing : Option X
+  nothing = None
+
+  neither : (b : Bool) → nothing ≡ cond b nothing nothing
+  neither true = refl
+  neither false = refl
+
+  pub find_passed : (test : K → Bool) (es : List (K × X)) (q : K) → find R q (filter (λ (e : K × X). test e.0) es) ≡ cond (test q) (find R q es) None
+  find_passed test [] q = neither (test q)
+  find_passed test (e ∷ es) q =
+      let rest = filter (λ (one : K × X). test one.0) es in
+      (elim (test e.0) as (λ b. test e.0 ≡ b → find R q (cond b (e ∷ rest) rest) ≡ cond (test q) (cond (eq_by_cmp R q e.0) (Some e.1) (find R q es)) None) [
+        | true ↦ λ passes. ap (cond (eq_by_cmp R q e.0) (Some e.1)) (find_passed test es q) ∙ in_it (eq_by_cmp R q e.0) (test q) (find R q es) (λ same. ap test ((decides q e.0).0 same) ∙ passes)
+        | false ↦ λ fails. find_passed test es q ∙ not_in (eq_by_cmp R q e.0) (test q) (find R q es) (λ same. ap test ((decides q e.0).0 same) ∙ fails)
+      ]) refl
+    where
+      in_it : (b t : Bool) (found : Option X) → (b ≡ true → t ≡ true) → cond b (Some e.1) (cond t found None) ≡ cond t (cond b (Some e.1) found) None
+      in_it true t found passes = ap (λ (c : Bool). cond c (Some e.1) None) (sym (passes refl))
+      in_it false t found passes = refl
+
+      not_in : (b t : Bool) (found : Option X) → (b ≡ true → t ≡ false) → cond t found None ≡ cond t (cond b (Some e.1) found) None
+      not_in true t found fails = ap (λ (c : Bool). cond c found None) (fails refl) ∙ ap (λ (c : Bool). cond c (Some e.1) None) (sym (fails refl))
+      not_in false t found fails = refl
+
+  pub found : (es : List (K × X)) (q : K) (x : X) → Contains es (q, x) → (y : X) × (find R q es ≡ Some y)
+  found [] q x h = absurd (none_in (q, x) h)
+  found (first ∷ es) q x h = elim (front_or_behind first (q, x) es h) [
+    | inl same ↦ (first.1, ap (λ (b : Bool). cond b (Some first.1) (find R q es)) ((decides q first.0).1 (λ i. (sym same i).0)))
+    | inr later ↦ by (eq_by_cmp R q first.0) (found es q x later)
+  ]
+    where
+      by : (b : Bool) → (y : X) × (find R q es ≡ Some y) → (y : X) × (cond b (Some first.1) (find R q es) ≡ Some y)
+      by true later = (first.1, refl)
+      by false later = later
 
   -- ---- what was put is there
   pub put_there : (es : List (K × X)) (m : FinMap R X) (q : K) (x : X) → finite.get (fold put_one m es) q ≡ Some x → Contains es (q, x) ⊎ (finite.get m q ≡ Some x)

@@ -1,6 +1,7 @@
 -- The graph that a swap leaves.
-use Rattle.std.specs.Prelude.{◌≡◌, ◌⊎◌, ◌↔◌, ◌<◌, ℕ, Bool, true, false, cond, List, [], ◌∷◌, Option, None, Some, Contains, fold, map, length, option_map, slice_get, take, is_some}
+use Rattle.std.specs.Prelude.{◌≡◌, ◌⊎◌, ◌↔◌, ◌<◌, ℕ, Bool, true, false, cond, List, [], ◌∷◌, Option, None, Some, Contains, fold, map, length, option_map, slice_get, take, is_some, unwrap_or}
 use Rattle.std.proofs.Common.{refl, sym, ap, subst, ◌∙◌, inl, inr}
+use Rattle.std.proofs.lemmas.Bool.{true≢false}
 use Rattle.std.specs.Ordering.{nat_cmp, MatchOrdering}
 use Rattle.std.specs.declared.cmp.Ordering.{Ordering}
 use Rattle.std.specs.declared.cmp.Ordering.TheVariants.{Less, Equal, Greater}
@@ -11,23 +12,25 @@ use Rattle.std.specs.FinMap.{nat_cmp-IsAntisymmetric, find}
 use Rattle.tup_path.specs.Name.{Names}
 use Rattle.tup_path.specs.Order.{by_names, by_names-total, by_names-antisymmetric, same_path, same_path-by_names}
 use Rattle.tup_path.proofs.Same.{by_names-decides}
-use Rattle.tup_rule.specs.Rule.{among}
+use Rattle.tup_rule.specs.Rule.{among, maker}
 use Rattle.tup_rule.specs.declared.question.Reading.{Reading}
 use Rattle.tup_rule.specs.declared.rule.Rule.{Rule}
+use Rattle.tup_record.specs.declared.owned.OwnedState.TheVariants.{Never}
 use Rattle.tup_record.specs.declared.run.RunRecord.{RunRecord}
 use Rattle.tup_graph.specs.declared.edit.Edit.{Edit}
+use Rattle.tup_graph.specs.declared.owned.Owned.{Owned}
 use Rattle.tup_graph.specs.Above.{IsAbove}
 use Rattle.tup_graph.specs.Edits.{edited_by}
 use Rattle.tup_graph.specs.Graph.{GraphState, is_flagged}
 use Rattle.tup_graph.specs.Kept.{IsRuleAt}
-use Rattle.tup_graph.specs.Swap.{WasAt, IsPlaced, IsSwapped, IsFlaggedYet, ReadsNew, reading_now}
+use Rattle.tup_graph.specs.Swap.{WasAt, IsPlaced, IsSwapped, IsFlaggedYet, ReadsNew, owned_now, reading_now}
 use Rattle.tup_graph.proofs.Keeping.{get_removed}
 use Rattle.tup_readers.proofs.Entries.{in_front, behind_front, front_or_behind, none_in}
 use Rattle.tup_closure.proofs.Members.{number-decides}
 use Rattle.tup_closure.proofs.Stepping.{above_as}
 use Rattle.tup_rule_diff.specs.Edits.{AreSwapEdits, IsRunNow, IsToRun, place_behind, dir_of}
 use Rattle.tup_rule_diff.proofs.Puts.{Once, first_or, get_put, put_there, there_put}
-use Rattle.tup_rule_diff.proofs.Leaving.{led_graph, led_is, place_at, places_behind, readings_after, swapped, swap_leaves, tagged}
+use Rattle.tup_rule_diff.proofs.Leaving.{led_graph, led_is, place_at, places_behind, readings_after, runs_after, swapped, swap_leaves, tagged}
 
 -- ---- readings
 none_same : (dir : Names) (fresh : List (Names × Reading)) → AllByRecursion (λ (other : Names). same_path dir other ≡ false) (map dir_of fresh) → find by_names dir fresh ≡ None
@@ -84,7 +87,31 @@ one_before g rule m n first second = by (nat_cmp m n) (ranks m n)
     by Equal same = same
     by Greater more = absurd (first.1 n more second.0)
 
+-- ---- owned paths stay owned
+abbrev is_owned_so : Option Owned → Bool
+is_owned_so found = is_some found
+
+always : (m : Option ℕ) (one : Owned) → is_owned_so (elim m [
+  | Some number ↦ Some (record { maker = Some number; state = unwrap_or (option_map (λ (owned : Owned). owned.state) (Some one)) Never })
+  | None ↦ option_map (λ (owned : Owned). record { maker = None; state = owned.state }) (Some one)
+]) ≡ true
+always (Some number) one = refl
+always None one = refl
+
+was_none : (rules : List Rule) (path : Names) (before : Option Owned) → owned_now rules path before ≡ None → before ≡ None
+was_none rules path None e = refl
+was_none rules path (Some one) e = absurd (true≢false (sym (always (maker path rules) one) ∙ ap is_owned_so e))
+
 module _ (g : GraphState) (fresh : List (Names × Reading)) (gone : List Names) (rules : List Rule) (edits : List Edit) (are : AreSwapEdits g fresh gone rules edits) where
+  pub kept_come : (number : ℕ) → are.kept number ≡ true → finite.get (runs_after are.runs) number ≡ None → ⊥
+  kept_come number is none =
+      let now = (are.kept_are number).0 is in
+      let there = there_put nat_cmp_total nat_cmp-IsAntisymmetric number-decides are.runs finite.empty number now.0 ((are.runs_are number now.0).1 now.1) in
+      no_value there.0 (sym none ∙ there.1)
+
+  pub owned_come : (path : Names) → finite.get are.owned path ≡ None → finite.get g.owned path ≡ None
+  owned_come path none = was_none rules path (finite.get g.owned path) (sym (are.owned_are path) ∙ none)
+
   abbrev pub after : GraphState
   after = swapped g fresh gone rules are.runs are.owned are.flags
 
@@ -178,5 +205,8 @@ module _ (g : GraphState) (fresh : List (Names × Reading)) (gone : List Names) 
     flags = λ number. (λ e. flagged_to number (to_run number (flag_to number e)), λ h. flag_from number (is_to_run number (flagged_from number h)));
   }
 
+  pub edits_leave : length g.places ≡ length g.rules → edited_by g edits ≡ after
+  edits_leave level = ap (edited_by g) are.all ∙ swap_leaves g fresh gone rules are.runs are.owned are.flags are.kept kept_come owned_come level
+
   pub swap_noted : length g.places ≡ length g.rules → IsDistinct same_path (map dir_of fresh) → IsSwapped g fresh gone rules (edited_by g edits)
-  swap_noted level once = subst (IsSwapped g fresh gone rules) (sym (ap (edited_by g) are.all ∙ swap_leaves g fresh gone rules are.runs are.owned are.flags level)) (is_swapped once)
+  swap_noted level once = subst (IsSwapped g fresh gone rules) (sym (edits_leave level)) (is_swapped once)

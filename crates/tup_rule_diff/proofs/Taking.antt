@@ -1,5 +1,5 @@
 -- A graph takes the edits of a swap, one after another.
-use Rattle.std.specs.Prelude.{◌≡◌, ◌⊎◌, ◌<◌, ◌+◌, ℕ, zero, suc, Bool, true, cond, List, [], ◌∷◌, ◌++◌, Option, None, Some, All, Contains, map, filter_map, length, count_by, option_map, slice_get, nat_lt, unwrap_or}
+use Rattle.std.specs.Prelude.{◌≡◌, ◌⊎◌, ◌<◌, ◌≤◌, ◌+◌, ◌||◌, ℕ, zero, suc, Bool, true, false, cond, not, List, [], ◌∷◌, ◌++◌, Option, None, Some, All, Contains, filter, map, filter_map, length, count_by, option_map, slice_get, nat_eq, nat_le, nat_lt, unwrap_or}
 use Rattle.std.proofs.Common.{refl, sym, ap, subst, ◌∙◌, inl, inr, append_assoc, length-append, arith}
 use Rattle.std.specs.declared.cmp.Ordering.{Ordering}
 use Rattle.std.specs.declared.cmp.Ordering.TheVariants.{Less, Equal, Greater}
@@ -8,14 +8,14 @@ use Rattle.std.specs.Cmp.{nat_cmp_is}
 use Rattle.std.specs.List.{AllByRecursion, cons_option}
 use Rattle.std.specs.FinMap as finite
 use Rattle.std.proofs.Math.Dec.{eqb}
-use Rattle.std.proofs.lemmas.Bool.{lt-ltb, eq-eqb, and_from}
+use Rattle.std.proofs.lemmas.Bool.{lt-ltb, eq-eqb, and_from, cases_eq, leb-false}
 use Rattle.std.proofs.lemmas.List.{length-take-le}
-use Rattle.std.proofs.lemmas.List.Elements.{recursion_from_All}
+use Rattle.std.proofs.lemmas.List.Elements.{Contains-append_left, Contains-append_right, recursion_from_All}
 use Rattle.std.proofs.lemmas.List.Quantifiers.{position-Some}
 use Rattle.std.proofs.lemmas.List.Sums.{fold-append}
 use Rattle.std.proofs.lemmas.Option.{slice_get_within}
 use Rattle.tup_path.specs.Name.{Names}
-use Rattle.tup_path.specs.Order.{by_names, by_names-antisymmetric, same_path}
+use Rattle.tup_path.specs.Order.{by_bytes, by_names, by_names-antisymmetric, same_path}
 use Rattle.tup_path.proofs.Same.{same_path-decides}
 use Rattle.tup_rule.specs.Rule.{maker, writes}
 use Rattle.tup_rule.specs.declared.question.Reading.{Reading}
@@ -23,12 +23,14 @@ use Rattle.tup_rule.specs.declared.rule.Rule.{Rule}
 use Rattle.tup_record.specs.declared.owned.OwnedState.TheVariants.{Never}
 use Rattle.tup_record.specs.declared.record.Record.TheVariants as records
 use Rattle.tup_record.specs.declared.run.RunRecord.{RunRecord}
-use Rattle.tup_table.specs.Entries.{Standing, IsAscending}
+use Rattle.tup_record.specs.Spelling.{Fits, KeyFits}
+use Rattle.tup_table.specs.declared.change.Change.{Change}
+use Rattle.tup_table.specs.Entries.{Standing, IsAscending, committed, key_of}
 use Rattle.tup_graph.specs.declared.edit.Edit.{Edit}
 use Rattle.tup_graph.specs.declared.edit.Edit.TheVariants.{Remove}
 use Rattle.tup_graph.specs.declared.owned.Owned.{Owned}
 use Rattle.tup_graph.specs.Above.{AboveOver, HasReadOf}
-use Rattle.tup_graph.specs.Changes.{once_made}
+use Rattle.tup_graph.specs.Changes.{changes_it, last_changes, once_made}
 use Rattle.tup_graph.specs.Edits.{edited, edited_by, change_of, with_first, HasSpelling, IsBare, IsTaken, AreTakenInTurn}
 use Rattle.tup_graph.specs.Graph.{GraphState, is_rule}
 use Rattle.tup_graph.specs.Opening.{fits, comes_behind, last_of, IsGraphOf}
@@ -37,13 +39,15 @@ use Rattle.tup_graph.specs.Transactions.{flag_edits}
 use Rattle.tup_graph.proofs.Bare.{level_of}
 use Rattle.tup_graph.proofs.Needed.{needed_read}
 use Rattle.tup_graph.proofs.Turns.{turns_read, taken_so, taken_both}
-use Rattle.tup_readers.proofs.Entries.{in_front, behind_front}
+use Rattle.tup_readers.proofs.Entries.{in_front, behind_front, front_or_behind, none_in}
 use Rattle.tup_scan_diff.proofs.Editing.{found_entry}
 use Rattle.tup_scan_diff.proofs.Paths.{last_item}
-use Rattle.tup_rule_diff.specs.Edits.{AreSwapEdits, unflag, uncreate, unown, unrun, clear_edits, unread, read_so, reading_edits, less_edits, no_rule, rule_less, more_edits, rule_more, place_behind, run_so, own_so, IsToRun}
+use Rattle.tup_rule_diff.specs.Edits.{AreSwapEdits, unflag, uncreate, unrun, unrun_edits, clear_edits, goes, unread, read_so, reading_edits, less_edits, no_rule, rule_less, more_edits, rule_more, place_behind, run_so, own_so, IsToRun}
 use Rattle.tup_rule_diff.specs.Order.{AreByFolder}
-use Rattle.tup_rule_diff.proofs.Leaving.{cleared, clears, less_leaves, places_behind, led_graph, read_anew, bare, ruled, run_again, owned_again, leaves_read, leaves_bare, leaves_ruled, leaves_run, leaves_owned}
-use Rattle.tup_rule_diff.proofs.Swapping.{run_is, to_run}
+use Rattle.tup_rule_diff.proofs.Leaving.{Owners, places_behind, led_graph, left, edits_of, read_anew, bare, ruled, run_again, owned_again, is_last, leaves_all, leaves_read, leaves_bare, leaves_ruled, leaves_run, leaves_owned}
+use Rattle.tup_rule_diff.proofs.Covered.{Covered, after, after_both, all_left_out, covers, last_as, rules_left_out}
+use Rattle.tup_rule_diff.proofs.Swapping.{edits_leave, owned_come, run_is, to_run}
+use Rattle.tup_rule_diff.proofs.Whole.{all_cleared, unown, unrun_so, whole_clear, whole_clears, whole_less, whole_less_leaves}
 
 -- ---- spellings of two lists of edits
 front : (xs ys : List Edit) → AllByRecursion HasSpelling (xs ++ ys) → AllByRecursion HasSpelling xs
@@ -80,6 +84,10 @@ module _ (h : GraphState) where
   unrecorded [] all = tt
   unrecorded (e ∷ es) all = ((tt, all.0), unrecorded es all.1)
 
+  unrun_again : (es : List (ℕ × RunRecord)) → AllByRecursion HasSpelling (map unrun_so es) → AllByRecursion (IsTaken h) (map unrun_so es)
+  unrun_again [] all = tt
+  unrun_again (e ∷ es) all = ((tt, all.0), unrun_again es all.1)
+
   readings_gone : (g : GraphState) (gone : List Names) → AllByRecursion HasSpelling (filter_map (unread g) gone) → AllByRecursion (IsTaken h) (filter_map (unread g) gone)
   readings_gone g [] all = tt
   readings_gone g (dir ∷ gone) all = by (finite.get g.readings dir) (readings_gone g gone) all
@@ -93,20 +101,24 @@ module _ (h : GraphState) where
   readings_new [] all = tt
   readings_new (one ∷ fresh) all = ((tt, all.0, refl), readings_new fresh all.1)
 
-clear_taken : (g : GraphState) → AllByRecursion HasSpelling (clear_edits g) → AreTakenInTurn g (clear_edits g)
-clear_taken g all =
+clear_taken : (kept : ℕ → Bool) (g : GraphState) (owned : Owners) (again : List (ℕ × RunRecord)) → AllByRecursion HasSpelling (whole_clear kept g owned again) → AreTakenInTurn g (whole_clear kept g owned again)
+clear_taken kept g owned again all =
     let flags = map unflag (finite.entries g.flags) in
     let created = map uncreate (finite.entries g.created) in
-    let owned = map unown (finite.entries g.owned) in
-    let runs = map unrun (finite.entries g.runs) in
-    let three = front (flags ++ created ++ owned) runs all in
-    let two = front (flags ++ created) owned three in
-    taken_so g (clear_edits g)
-    (joined (IsTaken g) (flags ++ created ++ owned) runs
-    (joined (IsTaken g) (flags ++ created) owned
+    let paths = map unown (finite.entries owned) in
+    let runs = unrun_edits kept (finite.entries g.runs) in
+    let others = map unrun_so again in
+    let four = front (flags ++ created ++ paths ++ runs) others all in
+    let three = front (flags ++ created ++ paths) runs four in
+    let two = front (flags ++ created) paths three in
+    taken_so g (whole_clear kept g owned again)
+    (joined (IsTaken g) (flags ++ created ++ paths ++ runs) others
+    (joined (IsTaken g) (flags ++ created ++ paths) runs
+    (joined (IsTaken g) (flags ++ created) paths
     (joined (IsTaken g) flags created (unflagged g (finite.entries g.flags) (front flags created two)) (uncreated g (finite.entries g.created) (rest flags created two)))
-    (unowned g (finite.entries g.owned) (rest (flags ++ created) owned three)))
-    (unrecorded g (finite.entries g.runs) (rest (flags ++ created ++ owned) runs all)))
+    (unowned g (finite.entries owned) (rest (flags ++ created) paths three)))
+    (unrecorded g (filter (λ (run : ℕ × RunRecord). not (kept run.0)) (finite.entries g.runs)) (rest (flags ++ created ++ paths) runs four)))
+    (unrun_again g again (rest (flags ++ created ++ paths ++ runs) others all)))
 
 reading_taken : (h g : GraphState) (fresh : List (Names × Reading)) (gone : List Names) → AllByRecursion HasSpelling (reading_edits g fresh gone) → AreTakenInTurn h (reading_edits g fresh gone)
 reading_taken h g fresh gone all =
@@ -118,18 +130,18 @@ reading_taken h g fresh gone all =
 bare_first : (h : GraphState) (n : ℕ) → IsBare h → IsBare (with_first h n)
 bare_first h n is = record { runs = is.runs; owned = is.owned; created = is.created; flags = is.flags }
 
-less_taken : (h : GraphState) (n : ℕ) (rules : List Rule) → IsBare h → length h.rules ≡ n + length rules → length h.places ≡ n + length rules → AllByRecursion HasSpelling (less_edits n rules) → AreTakenInTurn h (less_edits n rules)
+less_taken : (h : GraphState) (n : ℕ) (rules : List Rule) → IsBare h → length h.rules ≡ n + length rules → length h.places ≡ n + length rules → AllByRecursion HasSpelling (whole_less n rules) → AreTakenInTurn h (whole_less n rules)
 less_taken h n [] is many level all = tt
 less_taken h n (rule ∷ rules) is many level all =
-    then h (with_first h (suc n)) (less_edits (suc n) rules) (rule_less n ∷ [])
-    (less_taken h (suc n) rules is (omega (arith, many)) (omega (arith, level)) (front (less_edits (suc n) rules) (rule_less n ∷ []) all))
-    (less_leaves h (suc n) rules (omega (arith, many)) (omega (arith, level))) (
+    then h (with_first h (suc n)) (whole_less (suc n) rules) (rule_less n ∷ [])
+    (less_taken h (suc n) rules is (omega (arith, many)) (omega (arith, level)) (front (whole_less (suc n) rules) (rule_less n ∷ []) all))
+    (whole_less_leaves h (suc n) rules (omega (arith, many)) (omega (arith, level))) (
       inr (record {
         number = n;
         place = 0;
         rule = no_rule;
         bare = bare_first h (suc n) is;
-        spelled = (rest (less_edits (suc n) rules) (rule_less n ∷ []) all).0;
+        spelled = (rest (whole_less (suc n) rules) (rule_less n ∷ []) all).0;
         one = inl (refl, length-take-le (suc n) h.rules (omega (arith, many)));
       }),
       tt,
@@ -266,6 +278,76 @@ module _ (h : GraphState) where
     flag_taken numbers (λ other there. named other (behind_front number other numbers there)) all.1,
   )
 
+-- ---- what is left out is spelled where the rest is
+unown_spelled : (es : List (Names × Owned)) → AllByRecursion HasSpelling (map own_so es) → AllByRecursion HasSpelling (map unown es)
+unown_spelled [] all = tt
+unown_spelled (e ∷ es) all = (all.0, unown_spelled es all.1)
+
+unrun_spelled : (es : List (ℕ × RunRecord)) → AllByRecursion HasSpelling (map run_so es) → AllByRecursion HasSpelling (map unrun_so es)
+unrun_spelled [] all = tt
+unrun_spelled (e ∷ es) all = (all.0, unrun_spelled es all.1)
+
+-- the number of a rule that comes
+number_spelled : (before rules : List Rule) → AllByRecursion HasSpelling (more_edits before rules) → (k : ℕ) → k < length rules → KeyFits (records.Rule (length before + k) 0 no_rule)
+number_spelled before [] all k less = absurd (omega (arith, less))
+number_spelled before (rule ∷ rules) all zero less = subst (λ (n : ℕ). KeyFits (records.Rule n 0 no_rule)) (let same : length before ≡ length before + 0 = omega arith in same) all.0.0
+number_spelled before (rule ∷ rules) all (suc k) less =
+    subst (λ (n : ℕ). KeyFits (records.Rule n 0 no_rule)) (let longer = length-append before (rule ∷ []) in let same : length (before ++ rule ∷ []) + k ≡ length before + suc k = omega (arith, longer) in same)
+    (number_spelled (before ++ rule ∷ []) rules all.1 k (omega (arith, less)))
+
+-- a rule that goes
+less_spelled : (count n : ℕ) (rules : List Rule) → AllByRecursion HasSpelling (less_edits count n rules) → (k : ℕ) → n ≤ k → k < n + length rules → goes count k ≡ true → Fits (records.Rule k 0 no_rule)
+less_spelled count n [] all k from less it = absurd (omega (arith, from, less))
+less_spelled count n (rule ∷ rules) all k from less it = elim (cases_eq k n) [
+  | inl same ↦ here (goes count n) (sym (ap (goes count) same) ∙ it) (rest (less_edits count (suc n) rules) (cond (goes count n) (rule_less n ∷ []) []) all) same
+  | inr apart ↦ less_spelled count (suc n) rules (front (less_edits count (suc n) rules) (cond (goes count n) (rule_less n ∷ []) []) all) k (omega (arith, from, apart)) (omega (arith, less)) it
+]
+  where
+    here : (b : Bool) → b ≡ true → AllByRecursion HasSpelling (cond b (rule_less n ∷ []) []) → k ≡ n → Fits (records.Rule k 0 no_rule)
+    here true is all same = subst (λ (m : ℕ). Fits (records.Rule m 0 no_rule)) (sym same) all.0
+    here false is all same = absurd (let wrong : false ≡ true = is in cc)
+
+whole_spelled : (n : ℕ) (rules : List Rule) → ((k : ℕ) → n ≤ k → k < n + length rules → Fits (records.Rule k 0 no_rule)) → AllByRecursion HasSpelling (whole_less n rules)
+whole_spelled n [] fit = tt
+whole_spelled n (rule ∷ rules) fit = joined HasSpelling (whole_less (suc n) rules) (rule_less n ∷ []) (whole_spelled (suc n) rules (λ k from less. fit k (omega (arith, from)) (omega (arith, less)))) (fit n (omega arith) (omega arith), tt)
+
+-- a rule that comes, among those that do
+rule_comes : (before rules : List Rule) (k : ℕ) → k < length rules → (edit : Edit) × Contains (more_edits before rules) edit × (key_of (change_of edit) ≡ key_of (change_of (rule_less (length before + k))))
+rule_comes before [] k less = absurd (omega (arith, less))
+rule_comes before (rule ∷ rules) zero less =
+    let first = rule_more (length before) (place_behind before rule) rule in
+    (first, in_front first (more_edits (before ++ rule ∷ []) rules), ap (λ (n : ℕ). key_of (change_of (rule_less n))) (let same : length before ≡ length before + 0 = omega arith in same))
+rule_comes before (rule ∷ rules) (suc k) less =
+    let first = rule_more (length before) (place_behind before rule) rule in
+    let later = rule_comes (before ++ rule ∷ []) rules k (omega (arith, less)) in
+    let longer = length-append before (rule ∷ []) in (
+      later.0,
+      behind_front first later.0 (more_edits (before ++ rule ∷ []) rules) later.1,
+      later.2 ∙ ap (λ (n : ℕ). key_of (change_of (rule_less n))) (let same : length (before ++ rule ∷ []) + k ≡ length before + suc k = omega (arith, longer) in same),
+    )
+
+-- what stays is below the count
+stays_below : (count k : ℕ) → goes count k ≡ false → k < count
+stays_below count k stays = leb-false count k (by (nat_eq k 0) (nat_le count k) stays)
+  where
+    by : (a b : Bool) → (a || b) ≡ false → b ≡ false
+    by true b e = absurd (let wrong : true ≡ false = e in cc)
+    by false b e = e
+
+mapped : {X : Type 0} (f : X → Edit) (xs : List X) (edit : Edit) → Contains (map f xs) edit → (x : X) × Contains xs x × (f x ≡ edit)
+mapped f [] edit h = absurd (none_in edit h)
+mapped f (x ∷ xs) edit h = elim (front_or_behind (f x) edit (map f xs) h) [
+  | inl same ↦ (x, in_front x xs, same)
+  | inr later ↦ let there = mapped f xs edit later in (there.0, behind_front x there.0 xs there.1, there.2)
+]
+
+in_mapped : {X : Type 0} (f : X → Edit) (xs : List X) (x : X) → Contains xs x → Contains (map f xs) (f x)
+in_mapped f [] x h = absurd (none_in x h)
+in_mapped f (first ∷ xs) x h = elim (front_or_behind first x xs h) [
+  | inl same ↦ subst (λ y. Contains (map f (first ∷ xs)) (f y)) same (in_front (f first) (map f xs))
+  | inr later ↦ behind_front (f first) (f x) (map f xs) (in_mapped f xs x later)
+]
+
 module _ (g : GraphState) (fresh : List (Names × Reading)) (gone : List Names) (rules : List Rule) (edits : List Edit) (are : AreSwapEdits g fresh gone rules edits) where
   run_named : (number : ℕ) (run : RunRecord) → Contains are.runs (number, run) → nat_lt number (length rules) ≡ true
   run_named number run there = let now = (are.runs_are number run).0 there in within rules number now.0 now.2
@@ -287,46 +369,209 @@ module _ (g : GraphState) (fresh : List (Names × Reading)) (gone : List Names) 
       by (inl (rule, here, why)) = within rules number rule here
       by (inr (steps, above)) = over steps above
 
-  -- ---- all of it
-  all_taken : length g.places ≡ length g.rules → AreByFolder rules → AllByRecursion HasSpelling (clear_edits g ++ reading_edits g fresh gone ++ less_edits 0 g.rules ++ more_edits [] rules ++ map run_so are.runs ++ map own_so (finite.entries are.owned) ++ flag_edits are.flags)
-      → AreTakenInTurn g (clear_edits g ++ reading_edits g fresh gone ++ less_edits 0 g.rules ++ more_edits [] rules ++ map run_so are.runs ++ map own_so (finite.entries are.owned) ++ flag_edits are.flags)
-  all_taken level ordered all =
-      let read = read_anew g fresh gone rules are.runs are.owned are.flags in
-      let empty = bare g fresh gone rules are.runs are.owned are.flags in
-      let told = ruled g fresh gone rules are.runs are.owned are.flags in
-      let again = run_again g fresh gone rules are.runs are.owned are.flags in
-      let whole = owned_again g fresh gone rules are.runs are.owned are.flags in
-      let first = clear_edits g ++ reading_edits g fresh gone in
-      let second = first ++ less_edits 0 g.rules in
-      let third = second ++ more_edits [] rules in
-      let fourth = third ++ map run_so are.runs in
-      let fifth = fourth ++ map own_so (finite.entries are.owned) in
-      let owned_all = front fifth (flag_edits are.flags) all in
-      let run_all = front fourth (map own_so (finite.entries are.owned)) owned_all in
-      let rule_all = front third (map run_so are.runs) run_all in
-      let bare_all = front second (more_edits [] rules) rule_all in
-      let read_all = front first (less_edits 0 g.rules) bare_all in
-      then g whole fifth (flag_edits are.flags)
-      (then g again fourth (map own_so (finite.entries are.owned))
-      (then g told third (map run_so are.runs)
-      (then g empty second (more_edits [] rules)
-      (then g read first (less_edits 0 g.rules)
-      (then g (cleared g) (clear_edits g) (reading_edits g fresh gone) (clear_taken g (front (clear_edits g) (reading_edits g fresh gone) read_all)) (clears g)
-      (reading_taken (cleared g) g fresh gone (rest (clear_edits g) (reading_edits g fresh gone) read_all)))
-      (leaves_read g fresh gone rules are.runs are.owned are.flags)
-      (less_taken read 0 g.rules (record { runs = refl; owned = refl; created = refl; flags = refl }) (omega arith) (omega (arith, level)) (rest first (less_edits 0 g.rules) bare_all)))
-      (leaves_bare g fresh gone rules are.runs are.owned are.flags level)
-      (more_taken empty [] rules (record { runs = refl; owned = refl; created = refl; flags = refl }) refl refl ordered (rest second (more_edits [] rules) rule_all)))
-      (leaves_ruled g fresh gone rules are.runs are.owned are.flags level)
-      (taken_so told (map run_so are.runs) (run_taken told are.runs run_named (rest third (map run_so are.runs) run_all))))
-      (leaves_run g fresh gone rules are.runs are.owned are.flags level)
-      (taken_so again (map own_so (finite.entries are.owned)) (own_taken again (finite.entries are.owned) owner_named (rest fourth (map own_so (finite.entries are.owned)) owned_all))))
-      (leaves_owned g fresh gone rules are.runs are.owned are.flags level)
-      (taken_so whole (flag_edits are.flags) (flag_taken whole are.flags flag_named (rest fifth (flag_edits are.flags) all)))
+  -- ---- all of it, with what is left out
+  abbrev flags_go : List Edit
+  flags_go = map unflag (finite.entries g.flags) ++ map uncreate (finite.entries g.created)
+
+  abbrev runs_go : List Edit
+  runs_go = unrun_edits are.kept (finite.entries g.runs)
+
+  abbrev whole : List Edit
+  whole = edits_of g fresh gone rules are.runs are.owned are.flags (whole_clear are.kept g are.owned are.runs) (whole_less 0 g.rules) finite.empty finite.empty
+
+  abbrev fewer : List Edit
+  fewer = edits_of g fresh gone rules are.runs are.owned are.flags (clear_edits are.kept g) (less_edits (length rules) 0 g.rules) g.owned (left are.kept g.runs)
+
+  -- what comes
+  abbrev comes_last : List Edit
+  comes_last = more_edits [] rules ++ (map run_so are.runs ++ (map own_so (finite.entries are.owned) ++ flag_edits are.flags))
+
+  -- what comes behind some edits
+  in_line : (clear less : List Edit) → edits_of g fresh gone rules are.runs are.owned are.flags clear less finite.empty finite.empty ≡ clear ++ (reading_edits g fresh gone ++ (less ++ comes_last))
+  in_line clear less =
+      let read = reading_edits g fresh gone in
+      let more = more_edits [] rules in
+      let ran = map run_so are.runs in
+      let owns = map own_so (finite.entries are.owned) in
+      let flagged = flag_edits are.flags in
+      append_assoc (clear ++ read ++ less ++ more ++ ran) owns flagged
+      ∙ append_assoc (clear ++ read ++ less ++ more) ran (owns ++ flagged)
+      ∙ append_assoc (clear ++ read ++ less) more (ran ++ (owns ++ flagged))
+      ∙ append_assoc (clear ++ read) less comes_last
+      ∙ append_assoc clear read (less ++ comes_last)
+
+  run_comes : (number : ℕ) → are.kept number ≡ true → (run : RunRecord) × Contains are.runs (number, run)
+  run_comes number is = let now = (are.kept_are number).0 is in (now.0, (are.runs_are number now.0).1 now.1)
+
+  rule_again : (k : ℕ) → k < length rules → Covered comes_last (rule_less k)
+  rule_again k less =
+      let there = rule_comes [] rules k less in
+      covers comes_last there.0 (rule_less k) (Contains-append_left (more_edits [] rules) (map run_so are.runs ++ (map own_so (finite.entries are.owned) ++ flag_edits are.flags)) there.0 there.1)
+      (there.2 ∙ ap (λ (n : ℕ). key_of (change_of (rule_less n))) (let same : 0 + k ≡ k = omega arith in same))
+
+  run_again_so : (front_edits : List Edit) (edit : Edit) → Contains (map unrun_so are.runs) edit → Covered (front_edits ++ comes_last) edit
+  run_again_so front_edits edit h =
+      let run = mapped unrun_so are.runs edit h in
+      covers (front_edits ++ comes_last) (run_so run.0) edit
+      (Contains-append_right front_edits comes_last (run_so run.0)
+      (Contains-append_right (more_edits [] rules) (map run_so are.runs ++ (map own_so (finite.entries are.owned) ++ flag_edits are.flags)) (run_so run.0)
+      (Contains-append_left (map run_so are.runs) (map own_so (finite.entries are.owned) ++ flag_edits are.flags) (run_so run.0) (in_mapped run_so are.runs run.0 run.1))))
+      (ap (λ (e : Edit). key_of (change_of e)) run.2)
+
+  own_again_so : (front_edits : List Edit) (edit : Edit) → Contains (map unown (finite.entries are.owned)) edit → Covered (front_edits ++ comes_last) edit
+  own_again_so front_edits edit h =
+      let one = mapped unown (finite.entries are.owned) edit h in
+      covers (front_edits ++ comes_last) (own_so one.0) edit
+      (Contains-append_right front_edits comes_last (own_so one.0)
+      (Contains-append_right (more_edits [] rules) (map run_so are.runs ++ (map own_so (finite.entries are.owned) ++ flag_edits are.flags)) (own_so one.0)
+      (Contains-append_right (map run_so are.runs) (map own_so (finite.entries are.owned) ++ flag_edits are.flags) (own_so one.0)
+      (Contains-append_left (map own_so (finite.entries are.owned)) (flag_edits are.flags) (own_so one.0) (in_mapped own_so (finite.entries are.owned) one.0 one.1)))))
+      (ap (λ (e : Edit). key_of (change_of e)) one.2)
+
+  -- the last changes are the same
+  same_last : after finite.empty whole ≡ after finite.empty fewer
+  same_last =
+      let read = reading_edits g fresh gone in
+      let owns = map unown (finite.entries are.owned) in
+      let ran = map unrun_so are.runs in
+      let rest_whole = whole_less 0 g.rules ++ comes_last in
+      let rest_fewer = less_edits (length rules) 0 g.rules ++ comes_last in
+      let start = after finite.empty flags_go in
+      let next = after start runs_go in
+      ap (after finite.empty) (in_line (whole_clear are.kept g are.owned are.runs) (whole_less 0 g.rules))
+      ∙ ap (after finite.empty)
+      (append_assoc (flags_go ++ owns ++ runs_go) ran (read ++ rest_whole) ∙ append_assoc (flags_go ++ owns) runs_go (ran ++ (read ++ rest_whole)) ∙ append_assoc flags_go owns (runs_go ++ (ran ++ (read ++ rest_whole))))
+      ∙ after_both finite.empty flags_go (owns ++ (runs_go ++ (ran ++ (read ++ rest_whole))))
+      ∙ ap (λ (l : List Edit). after start (owns ++ l)) (sym (whole_line runs_go ran read (whole_less 0 g.rules)))
+      ∙ all_left_out owns ((runs_go ++ ran ++ read ++ whole_less 0 g.rules) ++ comes_last) start (own_again_so (runs_go ++ ran ++ read ++ whole_less 0 g.rules))
+      ∙ ap (after start) (whole_line runs_go ran read (whole_less 0 g.rules))
+      ∙ after_both start runs_go (ran ++ (read ++ rest_whole))
+      ∙ ap (λ (l : List Edit). after next (ran ++ l)) (sym (append_assoc read (whole_less 0 g.rules) comes_last))
+      ∙ all_left_out ran ((read ++ whole_less 0 g.rules) ++ comes_last) next (run_again_so (read ++ whole_less 0 g.rules))
+      ∙ ap (after next) (append_assoc read (whole_less 0 g.rules) comes_last)
+      ∙ after_both next read rest_whole
+      ∙ rules_left_out (length rules) 0 g.rules comes_last (after next read) (λ k stays less. rule_again k (stays_below (length rules) k stays))
+      ∙ sym (after_both next read rest_fewer)
+      ∙ sym (after_both start runs_go (read ++ rest_fewer))
+      ∙ sym (after_both finite.empty flags_go (runs_go ++ (read ++ rest_fewer)))
+      ∙ ap (after finite.empty) (sym (append_assoc flags_go runs_go (read ++ rest_fewer)))
+      ∙ ap (after finite.empty) (sym (in_line (clear_edits are.kept g) (less_edits (length rules) 0 g.rules)))
+    where
+      whole_line : (a b c d : List Edit) → (a ++ b ++ c ++ d) ++ comes_last ≡ a ++ (b ++ (c ++ (d ++ comes_last)))
+      whole_line a b c d = append_assoc (a ++ b ++ c) d comes_last ∙ append_assoc (a ++ b) c (d ++ comes_last) ∙ append_assoc a b (c ++ (d ++ comes_last))
+
+  -- ---- all of it is spelled
+  all_spelled : AllByRecursion HasSpelling fewer → AllByRecursion HasSpelling whole
+  all_spelled all =
+      let read = reading_edits g fresh gone in
+      let less = less_edits (length rules) 0 g.rules in
+      let more = more_edits [] rules in
+      let ran = map run_so are.runs in
+      let owns = map own_so (finite.entries are.owned) in
+      let flagged = flag_edits are.flags in
+      let clear = clear_edits are.kept g in
+      let all_owned = front (clear ++ read ++ less ++ more ++ ran ++ owns) flagged all in
+      let all_run = front (clear ++ read ++ less ++ more ++ ran) owns all_owned in
+      let all_more = front (clear ++ read ++ less ++ more) ran all_run in
+      let all_less = front (clear ++ read ++ less) more all_more in
+      let all_read = front (clear ++ read) less all_less in
+      let all_clear = front clear read all_read in
+      let owned_spelled = rest (clear ++ read ++ less ++ more ++ ran) owns all_owned in
+      let run_spelled = rest (clear ++ read ++ less ++ more) ran all_run in
+      let more_spelled = rest (clear ++ read ++ less) more all_more in
+      let less_so = rest (clear ++ read) less all_less in
+      joined HasSpelling (whole_clear are.kept g are.owned are.runs ++ read ++ whole_less 0 g.rules ++ more ++ ran ++ owns) flagged
+      (joined HasSpelling (whole_clear are.kept g are.owned are.runs ++ read ++ whole_less 0 g.rules ++ more ++ ran) owns
+      (joined HasSpelling (whole_clear are.kept g are.owned are.runs ++ read ++ whole_less 0 g.rules ++ more) ran
+      (joined HasSpelling (whole_clear are.kept g are.owned are.runs ++ read ++ whole_less 0 g.rules) more
+      (joined HasSpelling (whole_clear are.kept g are.owned are.runs ++ read) (whole_less 0 g.rules)
+      (joined HasSpelling (whole_clear are.kept g are.owned are.runs) read
+      (joined HasSpelling (flags_go ++ map unown (finite.entries are.owned) ++ runs_go) (map unrun_so are.runs)
+      (joined HasSpelling (flags_go ++ map unown (finite.entries are.owned)) runs_go
+      (joined HasSpelling flags_go (map unown (finite.entries are.owned)) (front flags_go runs_go all_clear) (unown_spelled (finite.entries are.owned) owned_spelled))
+      (rest flags_go runs_go all_clear))
+      (unrun_spelled are.runs run_spelled))
+      (rest clear read all_read))
+      (whole_spelled 0 g.rules (λ k from less_all. rule_spelled more_spelled less_so k less_all (goes (length rules) k) refl)))
+      more_spelled)
+      run_spelled)
+      owned_spelled)
+      (rest (clear ++ read ++ less ++ more ++ ran ++ owns) flagged all)
+    where
+      rule_spelled : AllByRecursion HasSpelling (more_edits [] rules) → AllByRecursion HasSpelling (less_edits (length rules) 0 g.rules) → (k : ℕ) → k < 0 + length g.rules → (b : Bool) → goes (length rules) k ≡ b → Fits (records.Rule k 0 no_rule)
+      rule_spelled more less k within true it = less_spelled (length rules) 0 g.rules less k (omega arith) within it
+      rule_spelled more less k within false stays =
+          let first = less_spelled (length rules) 0 g.rules less 0 (omega arith) (omega (arith, within)) refl in
+          (subst (λ (n : ℕ). KeyFits (records.Rule n 0 no_rule)) (let same : 0 + k ≡ k = omega arith in same) (number_spelled [] rules more k (stays_below (length rules) k stays)), first.1)
+
+  -- ---- all of it is taken in turn
+  abbrev read : GraphState
+  read = read_anew g fresh gone rules are.runs are.owned are.flags (whole_clear are.kept g are.owned are.runs) (whole_less 0 g.rules) finite.empty finite.empty
+
+  abbrev empty : GraphState
+  empty = bare g fresh gone rules are.runs are.owned are.flags (whole_clear are.kept g are.owned are.runs) (whole_less 0 g.rules) finite.empty finite.empty
+
+  abbrev told : GraphState
+  told = ruled g fresh gone rules are.runs are.owned are.flags (whole_clear are.kept g are.owned are.runs) (whole_less 0 g.rules) finite.empty finite.empty
+
+  abbrev again : GraphState
+  again = run_again g fresh gone rules are.runs are.owned are.flags (whole_clear are.kept g are.owned are.runs) (whole_less 0 g.rules) finite.empty finite.empty
+
+  abbrev owning : GraphState
+  owning = owned_again g fresh gone rules are.runs are.owned are.flags (whole_clear are.kept g are.owned are.runs) (whole_less 0 g.rules) finite.empty finite.empty
+
+  module _ (level : length g.places ≡ length g.rules) where
+    clears_so : edited_by g (whole_clear are.kept g are.owned are.runs) ≡ all_cleared g
+    clears_so = whole_clears g are.kept are.owned are.runs run_comes (owned_come g fresh gone rules edits are)
+
+    lessens : edited_by read (whole_less 0 g.rules) ≡ empty
+    lessens = whole_less_leaves read 0 g.rules (omega arith) (omega (arith, level))
+
+    all_taken : AreByFolder rules → AllByRecursion HasSpelling whole → AreTakenInTurn g whole
+    all_taken ordered all =
+        let clear = whole_clear are.kept g are.owned are.runs in
+        let less = whole_less 0 g.rules in
+        let first = clear ++ reading_edits g fresh gone in
+        let second = first ++ less in
+        let third = second ++ more_edits [] rules in
+        let fourth = third ++ map run_so are.runs in
+        let fifth = fourth ++ map own_so (finite.entries are.owned) in
+        let owned_all = front fifth (flag_edits are.flags) all in
+        let run_all = front fourth (map own_so (finite.entries are.owned)) owned_all in
+        let rule_all = front third (map run_so are.runs) run_all in
+        let bare_all = front second (more_edits [] rules) rule_all in
+        let read_all = front first less bare_all in
+        then g owning fifth (flag_edits are.flags)
+        (then g again fourth (map own_so (finite.entries are.owned))
+        (then g told third (map run_so are.runs)
+        (then g empty second (more_edits [] rules)
+        (then g read first less
+        (then g (all_cleared g) clear (reading_edits g fresh gone) (clear_taken are.kept g are.owned are.runs (front clear (reading_edits g fresh gone) read_all)) clears_so
+        (reading_taken (all_cleared g) g fresh gone (rest clear (reading_edits g fresh gone) read_all)))
+        (leaves_read g fresh gone rules are.runs are.owned are.flags clear less finite.empty finite.empty clears_so lessens)
+        (less_taken read 0 g.rules (record { runs = refl; owned = refl; created = refl; flags = refl }) (omega arith) (omega (arith, level)) (rest first less bare_all)))
+        (leaves_bare g fresh gone rules are.runs are.owned are.flags clear less finite.empty finite.empty clears_so lessens)
+        (more_taken empty [] rules (record { runs = refl; owned = refl; created = refl; flags = refl }) refl refl ordered (rest second (more_edits [] rules) rule_all)))
+        (leaves_ruled g fresh gone rules are.runs are.owned are.flags clear less finite.empty finite.empty clears_so lessens)
+        (taken_so told (map run_so are.runs) (run_taken told are.runs run_named (rest third (map run_so are.runs) run_all))))
+        (leaves_run g fresh gone rules are.runs are.owned are.flags clear less finite.empty finite.empty clears_so lessens)
+        (taken_so again (map own_so (finite.entries are.owned)) (own_taken again (finite.entries are.owned) owner_named (rest fourth (map own_so (finite.entries are.owned)) owned_all))))
+        (leaves_owned g fresh gone rules are.runs are.owned are.flags clear less finite.empty finite.empty clears_so lessens)
+        (taken_so owning (flag_edits are.flags) (flag_taken owning are.flags flag_named (rest fifth (flag_edits are.flags) all)))
+
+    -- it leaves what the edits leave
+    whole_leaves : edited_by g whole ≡ edited_by g edits
+    whole_leaves =
+        leaves_all g fresh gone rules are.runs are.owned are.flags (whole_clear are.kept g are.owned are.runs) (whole_less 0 g.rules) finite.empty finite.empty clears_so lessens
+        ∙ is_last g fresh gone rules are.runs are.owned are.flags (whole_clear are.kept g are.owned are.runs) (whole_less 0 g.rules) finite.empty finite.empty (λ q none. finite.get-empty nat_cmp q) (λ q none. finite.get-empty by_names q)
+        ∙ sym (edits_leave g fresh gone rules edits are level)
 
   pub swap_read : (entries : Standing) (origin : ℕ) → IsAscending entries → IsGraphOf entries g → AreByFolder rules → All HasSpelling edits → IsGraphOf (once_made origin entries edits) (edited_by g edits)
   swap_read entries origin up is ordered spelled =
-      needed_read entries (map change_of edits) origin (edited_by g edits) up
-      (turns_read origin edits entries g up is (subst (AreTakenInTurn g) (sym are.all)
-      (all_taken (level_of entries g is) ordered (recursion_from_All HasSpelling (clear_edits g ++ reading_edits g fresh gone ++ less_edits 0 g.rules ++ more_edits [] rules ++ map run_so are.runs ++ map own_so (finite.entries are.owned) ++ flag_edits are.flags)
-      (subst (All HasSpelling) are.all spelled)))))
+      let level = level_of entries g is in
+      let all = all_spelled (recursion_from_All HasSpelling fewer (subst (All HasSpelling) are.all spelled)) in
+      let same : last_changes (map change_of whole) ≡ last_changes (map change_of edits) =
+      last_as whole ∙ same_last ∙ sym (last_as fewer) ∙ ap (λ (l : List Edit). last_changes (map change_of l)) (sym are.all) in
+      subst (λ (last : finite.FinMap by_bytes Change). IsGraphOf (committed origin entries (filter (changes_it entries) (finite.values last))) (edited_by g edits)) same
+      (subst (IsGraphOf (once_made origin entries whole)) (whole_leaves level)
+      (needed_read entries (map change_of whole) origin (edited_by g whole) up (turns_read origin whole entries g up is (all_taken level ordered all))))

@@ -1,5 +1,5 @@
 -- The edits that a swap of rules makes of a graph (own).
-use Rattle.std.specs.Prelude.{◌≡◌, ◌⊎◌, ◌↔◌, ℕ, suc, false, List, [], ◌∷◌, ◌++◌, Option, None, Some, Contains, length, map, filter_map, option_map, count_by, slice_get}
+use Rattle.std.specs.Prelude.{◌≡◌, ◌⊎◌, ◌↔◌, ◌||◌, ℕ, suc, Bool, true, false, not, nat_eq, nat_le, List, [], ◌∷◌, ◌++◌, Option, None, Some, Contains, length, filter, map, filter_map, option_map, count_by, slice_get, if◌then◌else◌}
 use Rattle.std.specs.FinMap as finite
 use Rattle.tup_path.specs.Name.{Names}
 use Rattle.tup_path.specs.Order.{by_names, same_path}
@@ -17,7 +17,7 @@ use Rattle.tup_graph.specs.Swap.{WasAt, owned_now, IsFlaggedYet, ReadsNew}
 use Rattle.tup_graph.specs.Transactions.{flag_edits}
 use Rattle.tup_closure.specs.Steps.{HasStepped, HasSteppedAtMost}
 
--- ---- nothing is flagged, to be read, owned or recorded of a run
+-- ---- what goes and doesn't come again
 
 -- a flag goes
 abbrev pub unflag : ℕ × Unit {0} → Edit
@@ -26,10 +26,6 @@ unflag flag = Remove (records.Modify flag.0)
 -- a mark that a folder is to be read goes
 abbrev pub uncreate : Names × Unit {0} → Edit
 uncreate created = Remove (records.Create created.0)
-
--- the owner of a path goes
-abbrev pub unown : Names × Owned → Edit
-unown owned = Remove (records.Owned owned.0 owned.1.maker owned.1.state)
 
 -- a record of a run that tells nothing: what goes is named by its number alone
 abbrev pub no_run : RunRecord
@@ -43,9 +39,13 @@ run_less number = Remove (records.Run number no_run)
 abbrev pub unrun : ℕ × RunRecord → Edit
 unrun run = run_less run.0
 
--- all of these go
-abbrev pub clear_edits : GraphState → List Edit
-clear_edits g = map unflag (finite.entries g.flags) ++ map uncreate (finite.entries g.created) ++ map unown (finite.entries g.owned) ++ map unrun (finite.entries g.runs)
+-- records of runs go, save those of the numbers under which one comes
+abbrev pub unrun_edits : (ℕ → Bool) → List (ℕ × RunRecord) → List Edit
+unrun_edits kept runs = map unrun (filter (λ (run : ℕ × RunRecord). not (kept run.0)) runs)
+
+-- flags and marks go, and the records of runs in whose place none comes; paths stay owned
+abbrev pub clear_edits : (ℕ → Bool) → GraphState → List Edit
+clear_edits kept g = map unflag (finite.entries g.flags) ++ map uncreate (finite.entries g.created) ++ unrun_edits kept (finite.entries g.runs)
 
 -- ---- readings of folders are gone, and others are new
 
@@ -79,10 +79,15 @@ rule_less number = Remove (records.Rule number 0 no_rule)
 abbrev pub rule_more : ℕ → ℕ → Rule → Edit
 rule_more number place rule = Put (records.Rule number place rule)
 
--- rules go, the last one first, where the first one has this number
-abbrev pub less_edits : ℕ → List Rule → List Edit
-less_edits number [] = []
-less_edits number (rule ∷ rules) = less_edits (suc number) rules ++ rule_less number ∷ []
+-- whether the rule of a number is taken away where so many come: the first one, with which go all behind it, and each in whose
+-- place none comes
+abbrev pub goes : ℕ → ℕ → Bool
+goes count number = nat_eq number 0 || nat_le count number
+
+-- rules go where so many come, the last one first, where the first one has this number
+abbrev pub less_edits : ℕ → ℕ → List Rule → List Edit
+less_edits count number [] = []
+less_edits count number (rule ∷ rules) = less_edits count (suc number) rules ++ (if goes count number then rule_less number ∷ [] else [])
 
 -- the place of a rule that comes behind others: how many of these are of its folder
 abbrev pub place_behind : List Rule → Rule → ℕ
@@ -132,9 +137,11 @@ IsToRun g led number = IsFlaggedYet g led number ⊎ IsAbove led (ReadsNew g led
 -- all of it
 pub record AreSwapEdits (g : GraphState) (fresh : List (Names × Reading)) (gone : List Names) (rules : List Rule) (edits : List Edit) : Type 0 where
   pub runs : List (ℕ × RunRecord)
+  pub kept : ℕ → Bool
   pub owned : finite.FinMap by_names Owned
   pub flags : List ℕ
   pub runs_are : (number : ℕ) (run : RunRecord) → Contains runs (number, run) ↔ IsRunNow g rules number run
+  pub kept_are : (number : ℕ) → (kept number ≡ true) ↔ ((run : RunRecord) × IsRunNow g rules number run)
   pub owned_are : (path : Names) → finite.get owned path ≡ owned_now rules path (finite.get g.owned path)
   pub flags_are : (number : ℕ) → Contains flags number ↔ IsToRun g (led_by rules runs) number
-  pub all : edits ≡ clear_edits g ++ reading_edits g fresh gone ++ less_edits 0 g.rules ++ more_edits [] rules ++ map run_so runs ++ map own_so (finite.entries owned) ++ flag_edits flags
+  pub all : edits ≡ clear_edits kept g ++ reading_edits g fresh gone ++ less_edits (length rules) 0 g.rules ++ more_edits [] rules ++ map run_so runs ++ map own_so (finite.entries owned) ++ flag_edits flags

@@ -1,5 +1,5 @@
 -- What rules keep by the numbers that they had, and who reads what new ones make (own).
-use Rattle.std.specs.Prelude.{◌≡◌, ℕ, Bool, true, false, List, [], ◌∷◌, Option, None, Some, Contains, is_none, option_map, option_to_list, unwrap_or, slice_get, if◌then◌else◌}
+use Rattle.std.specs.Prelude.{◌≡◌, ℕ, Bool, true, false, List, [], ◌∷◌, Option, None, Some, Contains, is_none, is_some, option_map, option_to_list, unwrap_or, slice_get, if◌then◌else◌}
 use Rattle.std.specs.BTreeSet.{BTreeSet, contains}
 use Rattle.std.specs.FinMap as finite
 use Rattle.std.specs.List.{list_any}
@@ -15,6 +15,15 @@ use Rattle.tup_scan_diff.specs.Sets.{Has}
 abbrev pub run_at : GraphState → ℕ → Option ℕ → List (ℕ × RunRecord)
 run_at g number None = []
 run_at g number (Some before) = option_to_list (option_map (λ (run : RunRecord). (number, run)) (finite.get g.runs before))
+
+-- whether a rule that had this number has a record
+abbrev pub had_run : GraphState → Option ℕ → Bool
+had_run g None = false
+had_run g (Some before) = is_some (finite.get g.runs before)
+
+-- whether the rule of a number keeps a record
+abbrev pub keeps_run : GraphState → List (Option ℕ) → ℕ → Bool
+keeps_run g befores number = had_run g (unwrap_or (slice_get befores number) None)
 
 -- whether a rule that had this number is new, or was flagged
 abbrev pub was_flagged : GraphState → Option ℕ → Bool

@@ -1,8 +1,9 @@
 //! A swap of rules.
-ghost use Rattle.std.specs.Prelude.{◌≡◌, ◌++◌, [], map, IfOk, IfErr, OnErr, OnOk};
+ghost use Rattle.std.specs.Prelude.{◌≡◌, ◌++◌, [], length, map, IfOk, IfErr, OnErr, OnOk};
 ghost use Rattle.std.specs.FinMap as finite;
 ghost use Rattle.tup_graph.specs.Transactions.{flag_edits};
 ghost use Rattle.tup_rule_diff.specs.Edits.{AreSwapEdits, SwapStepped, SwapSteppedAtMost, clear_edits, less_edits, more_edits, own_so, reading_edits, run_so};
+ghost use Rattle.tup_rule_diff.specs.Running.{keeps_run};
 
 use crate::before::numbers_before;
 use crate::clearing::{push_cleared, push_less, push_unread};
@@ -29,7 +30,7 @@ pub struct Refreshed {
 /// whose records ask an output of a new one, and all that recorded reads lead to from these. An output is owned by the
 /// first rule that has it, and other owned paths have no maker; states stay, and what is newly owned was never written.
 ///
-/// What was there is taken away, and what is there now is put in: of each key the last edit counts.
+/// What doesn't come again is taken away, and what is there now is put in: of each key the last edit counts.
 ///
 /// By the records that the rules keep, from those that ask an output of a new rule, it takes the steps of `above`; after a
 /// refusal it has taken no more.
@@ -58,7 +59,7 @@ pub fn swap_rules<L: Ledger>(
     )?;
     let owned = owned_now(alloc, nodes, rules)?;
     let mut edits = Items::new(alloc);
-    push_away(alloc, &mut edits, nodes, fresh)?;
+    push_away(alloc, &mut edits, nodes, fresh, befores.as_slice(), rules)?;
     push_now(
         alloc,
         &mut edits,
@@ -70,22 +71,25 @@ pub fn swap_rules<L: Ledger>(
     Ok(edits)
 }
 
-/// What goes: all but files and the readings that stay.
+/// What goes and doesn't come again, and the readings that come.
 fn push_away(
     alloc: Global,
     edits: &mut Edits,
     nodes: &Nodes,
     fresh: &Refreshed,
+    befores: &[Option<u32>],
+    rules: &[Rule],
 ) -> Result<(), GraphFault>
-    ensures ok { OnOk result (edits.new ≡ edits.old ++ clear_edits nodes.now
+    ensures ok { OnOk result (edits.new
+        ≡ edits.old ++ clear_edits (keeps_run nodes.now befores.now) nodes.now
         ++ reading_edits nodes.now fresh.now.readings fresh.now.gone
-        ++ less_edits 0 nodes.now.rules) }
+        ++ less_edits (length rules.now) 0 nodes.now.rules) }
     ensures err { IfErr result (λ fault. fault ≡ GraphFault.Memory) }
 {
-    push_cleared(alloc, edits, nodes)?;
+    push_cleared(alloc, edits, nodes, befores)?;
     push_unread(edits, nodes, fresh.gone.as_slice())?;
     push_fresh(edits, fresh.readings.as_slice())?;
-    push_less(alloc, edits, nodes.rules())
+    push_less(alloc, edits, nodes.rules(), rules.len())
 }
 
 /// What is there now: rules, their records, owned paths and flags.

@@ -1,4 +1,4 @@
-use Rattle.std.proofs.Common.{◌≡◌, ◌∙◌, ◌↔◌, ℕ, List, refl, ap, sym, subst}
+use Rattle.std.proofs.Common.{◌∙◌, ◌↔◌, ℕ, List, refl, ap, sym, subst}
 use Rattle.std.specs.Prelude.{Contains}
 use Rattle.tup_graph.specs.Graph.{GraphState}
 use Rattle.tup_graph.specs.Swap.{ReadsNew}
