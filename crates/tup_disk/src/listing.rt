@@ -163,7 +163,11 @@ impl<R: Files<File = File> + Clone + Drop> Disk<R> {
     {
         let runtime = (self.rt.clone()?, self.alloc);
         let mut names = Vec::new(self.alloc);
-        for entry in self.at(Operation::List, folder, fs::read_dir(&runtime, folder))? {
+        let entries = match fs::read_dir(&runtime, folder) {
+            Ok(entries) => entries,
+            Err(e) => return Err(self.refused(Operation::List, folder, e)),
+        };
+        for entry in entries {
             self.add_name(folder, &mut names, entry)?;
         }
         Ok(names)
