@@ -21,11 +21,11 @@ use Rattle.tup_rule_diff.specs.Edits.{goes, less_edits, rule_less}
 use Rattle.tup_rule_diff.proofs.Puts.{first_or, put_one, put_over, there_put}
 use Rattle.tup_rule_diff.proofs.Whole.{whole_less}
 
-abbrev Last : Type 0
+abbrev pub Last : Type 0
 Last = finite.FinMap by_bytes Change
 
 -- an edit's change under its key
-abbrev keyed : Edit → List ℕ × Change
+abbrev pub keyed : Edit → List ℕ × Change
 keyed edit = (key_of (change_of edit), change_of edit)
 
 -- the last changes of edits behind others
@@ -47,6 +47,14 @@ after_both last xs ys =
 -- the key of an edit comes again in others
 abbrev pub Covered : List Edit → Edit → Type 0
 Covered edits edit = (change : Change) × (finite.get (after finite.empty edits) (key_of (change_of edit)) ≡ Some change)
+
+-- what a list is of that is made of another
+pub mapped : {X Y : Type 0} (f : X → Y) (xs : List X) (y : Y) → Contains (map f xs) y → (x : X) × Contains xs x × (f x ≡ y)
+mapped f [] y h = absurd (none_in y h)
+mapped f (x ∷ xs) y h = elim (front_or_behind (f x) y (map f xs) h) [
+  | inl same ↦ (x, in_front x xs, same)
+  | inr later ↦ let there = mapped f xs y later in (there.0, behind_front x there.0 xs there.1, there.2)
+]
 
 in_map : (edits : List Edit) (edit : Edit) → Contains edits edit → Contains (map keyed edits) (keyed edit)
 in_map [] edit h = absurd (none_in edit h)

@@ -7,7 +7,7 @@ use Rattle.std.specs.FinMap as finite
 use Rattle.std.specs.FinMap.{nat_cmp-IsAntisymmetric}
 use Rattle.std.proofs.lemmas.Bool.{lt-ltb}
 use Rattle.std.proofs.lemmas.List.Elements.{Contains-append_left, Contains-append_right, Contains-append_cases}
-use Rattle.std.proofs.lemmas.Option.{none-some, slice_get_within}
+use Rattle.std.proofs.lemmas.Option.{none-some, same_Some, slice_get_within}
 use Rattle.tup_path.specs.Name.{Names}
 use Rattle.tup_rule.specs.declared.rule.Rule.{Rule}
 use Rattle.tup_rule.specs.declared.question.Reading.{Reading}
@@ -25,7 +25,7 @@ use Rattle.tup_closure.specs.Steps.{HasStepped}
 use Rattle.tup_closure.proofs.Stepping.{above_as}
 use Rattle.tup_closure.proofs.Walking.{no_order}
 use Rattle.tup_rule_diff.specs.Before.{AreNumbersBefore, IsNumberBefore}
-use Rattle.tup_rule_diff.specs.Edits.{AreSwapEdits, IsRunNow, IsToRun, clear_edits, led_by, less_edits, more_edits, own_so, reading_edits, run_so}
+use Rattle.tup_rule_diff.specs.Edits.{AreNews, AreSwapEdits, HadNumber, PutsAll, IsRunNow, IsToRun, clear_edits, led_by, less_edits, more_edits, own_so, reading_edits, run_so}
 use Rattle.tup_rule_diff.specs.Numbered.{numbered}
 use Rattle.tup_rule_diff.specs.Owners.{AreOwned}
 use Rattle.tup_rule_diff.specs.Running.{NoneReadsNew, ReadsOneNew, flag_at, had_run, is_new_at, keeps_run, run_at, was_flagged}
@@ -213,13 +213,33 @@ module _ (g : GraphState) (rules : List Rule) (befores : List (Option ℕ)) (are
     led_rules = ap (λ (l : GraphState). l.rules) (led_is rules runs)
 
     -- ---- all edits
+    -- a record under the number that its rule had stands
+    run_stands : (number : ℕ) (run : RunRecord) → Contains runs (number, run) → HadNumber befores number run → finite.get g.runs number ≡ Some run
+    run_stands number run h same = by (run_to number run (subst (λ (l : List (ℕ × RunRecord)). Contains l (number, run)) kept h))
+      where
+        by : IsRunNow g rules number run → finite.get g.runs number ≡ Some run
+        by (rule, before, here, was, ran) =
+            let one = before_of g rules befores number rule are here in
+            let had : one.0 ≡ Some number = same_Some one.0 (Some number) (sym one.1 ∙ same) in
+            ap (finite.get g.runs) (one_before g rule number before (subst (IsNumberBefore g rule) had one.2) was) ∙ ran
+
+    news_stand : (news : List (ℕ × RunRecord)) → AreNews (HadNumber befores) runs news → AreNews (λ number run. finite.get g.runs number ≡ Some run) runs news
+    news_stand news found = record {
+      within = found.within;
+      rest = λ number run h. elim (found.rest number run h) [
+        | inl new ↦ inl new
+        | inr same ↦ inr (run_stands number run h same)
+      ];
+    }
+
     pub are_edits : (fresh : List (Names × Reading)) (gone : List Names) (owned : Owners) (flags : List ℕ) (start away edits : List Edit) → AreOwned rules g.owned owned → ((n : ℕ) → Contains flags n ↔ IsToRun g (led_by rules runs) n)
-        → start ≡ [] → away ≡ start ++ clear_edits (keeps_run g befores) g ++ reading_edits g fresh gone ++ less_edits (length rules) 0 g.rules
-        → edits ≡ away ++ more_edits [] rules ++ map run_so runs ++ map own_so (finite.entries owned) ++ flag_edits flags → AreSwapEdits g fresh gone rules edits
-    are_edits fresh gone owned flags start away edits owners to_run none first second = record {
+        → start ≡ [] → away ≡ start ++ clear_edits (keeps_run g befores) g ++ reading_edits g fresh gone ++ less_edits (length rules) 0 g.rules ++ more_edits [] rules → PutsAll g befores runs owned flags away edits → AreSwapEdits g fresh gone rules edits
+    are_edits fresh gone owned flags start away edits owners to_run none first (run_news, owned_news, runs_new, owned_new, second) = record {
       runs = runs;
       kept = keeps_run g befores;
       owned = owned;
+      run_news = run_news;
+      owned_news = owned_news;
       flags = flags;
       runs_are = λ number run. (
         λ h. run_to number run (subst (λ (l : List (ℕ × RunRecord)). Contains l (number, run)) kept h),
@@ -227,8 +247,10 @@ module _ (g : GraphState) (rules : List Rule) (befores : List (Option ℕ)) (are
       );
       kept_are = λ number. (kept_to number, kept_from number);
       owned_are = owners;
+      run_news_are = news_stand run_news runs_new;
+      owned_news_are = owned_new;
       flags_are = to_run;
       all =
-          second ∙ (λ i. first i ++ more_edits [] rules ++ map run_so runs ++ map own_so (finite.entries owned) ++ flag_edits flags)
-          ∙ (λ i. none i ++ clear_edits (keeps_run g befores) g ++ reading_edits g fresh gone ++ less_edits (length rules) 0 g.rules ++ more_edits [] rules ++ map run_so runs ++ map own_so (finite.entries owned) ++ flag_edits flags);
+          second ∙ (λ i. first i ++ map run_so run_news ++ map own_so owned_news ++ flag_edits flags)
+          ∙ (λ i. none i ++ clear_edits (keeps_run g befores) g ++ reading_edits g fresh gone ++ less_edits (length rules) 0 g.rules ++ more_edits [] rules ++ map run_so run_news ++ map own_so owned_news ++ flag_edits flags);
     }

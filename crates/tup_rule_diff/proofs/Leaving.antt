@@ -79,6 +79,16 @@ none_left kept runs q not_kept =
     (find_passed nat_cmp_total nat_cmp-IsAntisymmetric number-decides (λ n. not (kept n)) (finite.entries runs) q ∙ ap (λ (found : Option RunRecord). cond (not (kept q)) found None) (sym (finite.get-entries runs q)))
     ∙ none_else (kept q) (finite.get runs q) not_kept
 
+some_kept : (b : Bool) (found : Option RunRecord) → b ≡ true → cond (is_some (cond (not b) found None)) None found ≡ found
+some_kept b found e = ap (λ (c : Bool). cond (is_some (cond (not c) found None)) None found) e
+
+pub left_kept : (kept : ℕ → Bool) (runs : Runs) (q : ℕ) → kept q ≡ true → finite.get (left kept runs) q ≡ finite.get runs q
+left_kept kept runs q is_kept =
+    get_taken nat_cmp_total nat_cmp-IsAntisymmetric number-decides (others kept runs) runs q
+    ∙ ap (λ (found : Option RunRecord). cond (is_some found) None (finite.get runs q))
+    (find_passed nat_cmp_total nat_cmp-IsAntisymmetric number-decides (λ n. not (kept n)) (finite.entries runs) q ∙ ap (λ (found : Option RunRecord). cond (not (kept q)) found None) (sym (finite.get-entries runs q)))
+    ∙ some_kept (kept q) (finite.get runs q) is_kept
+
 abbrev pub cleared : (ℕ → Bool) → GraphState → GraphState
 cleared kept g = record g { flags = finite.empty; created = finite.empty; runs = left kept g.runs }
 
@@ -280,17 +290,43 @@ module _ (g : GraphState) (fresh : List (Names × Reading)) (gone : List Names) 
         places = places_behind [] rules;
       }
 
-  -- ---- what the edits of a swap leave
-  module _ (kept : ℕ → Bool) (kept_come : (number : ℕ) → kept number ≡ true → finite.get (runs_after runs) number ≡ None → ⊥) (owned_come : (q : Names) → finite.get owned q ≡ None → finite.get g.owned q ≡ None) where
-    runs_come : (q : ℕ) → finite.get (runs_after runs) q ≡ None → finite.get (left kept g.runs) q ≡ None
-    runs_come q none = none_left kept g.runs q (by (kept q) refl)
-      where
-        by : (b : Bool) → kept q ≡ b → b ≡ false
-        by true is = absurd (kept_come q is none)
-        by false is = refl
+  -- ---- what the edits of a swap leave, where they put these
+  module _ (kept : ℕ → Bool) (run_news : List (ℕ × RunRecord)) (owned_news : List (Names × Owned)) (runs_same : fold (put_one nat_cmp_total nat_cmp-IsAntisymmetric number-decides) (left kept g.runs) run_news ≡ runs_after runs)
+      (owned_same : fold (put_one by_names-total by_names-antisymmetric by_names-decides) g.owned owned_news ≡ owned) where
+    abbrev pub front_edits : List Edit
+    front_edits = clear_edits kept g ++ reading_edits g fresh gone ++ less_edits (length rules) 0 g.rules ++ more_edits [] rules
 
-    pub swap_leaves : length g.places ≡ length g.rules → edited_by g (edits_of (clear_edits kept g) (less_edits (length rules) 0 g.rules) g.owned (left kept g.runs)) ≡ swapped
+    abbrev first : GraphState
+    first = ruled (clear_edits kept g) (less_edits (length rules) 0 g.rules) g.owned (left kept g.runs)
+
+    abbrev second : GraphState
+    second = record first { runs = fold (put_one nat_cmp_total nat_cmp-IsAntisymmetric number-decides) (left kept g.runs) run_news }
+
+    abbrev third : GraphState
+    third = record second { owned = fold (put_one by_names-total by_names-antisymmetric by_names-decides) g.owned owned_news }
+
+    abbrev fourth : GraphState
+    fourth = record third { flags = flags_after flags }
+
+    same : fourth ≡ swapped
+    same = λ i. record g {
+      flags = flags_after flags;
+      created = finite.empty;
+      owned = owned_same i;
+      runs = runs_same i;
+      readings = readings_after g fresh gone;
+      rules = rules;
+      places = places_behind [] rules;
+    }
+
+    pub swap_leaves : length g.places ≡ length g.rules → edited_by g (front_edits ++ map run_so run_news ++ map own_so owned_news ++ flag_edits flags) ≡ swapped
     swap_leaves level =
-        leaves_all (clear_edits kept g) (less_edits (length rules) 0 g.rules) g.owned (left kept g.runs) (clears g kept)
-        (less_leaves (read_anew (clear_edits kept g) (less_edits (length rules) 0 g.rules) g.owned (left kept g.runs)) (length rules) level)
-        ∙ is_last (clear_edits kept g) (less_edits (length rules) 0 g.rules) g.owned (left kept g.runs) runs_come owned_come
+        both g third fourth (front_edits ++ map run_so run_news ++ map own_so owned_news) (flag_edits flags)
+        (both g second third (front_edits ++ map run_so run_news) (map own_so owned_news)
+        (both g first second front_edits (map run_so run_news)
+        (leaves_ruled (clear_edits kept g) (less_edits (length rules) 0 g.rules) g.owned (left kept g.runs) (clears g kept)
+        (less_leaves (read_anew (clear_edits kept g) (less_edits (length rules) 0 g.rules) g.owned (left kept g.runs)) (length rules) level))
+        (run_leaves first run_news))
+        (own_leaves second owned_news))
+        (flag_leaves third flags)
+        ∙ same

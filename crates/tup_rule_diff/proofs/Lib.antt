@@ -1,8 +1,11 @@
 mod Pushing
+mod NewPuts
 mod Puts
 mod Leaving
 mod Whole
 mod Covered
+mod News
+mod Stood
 mod Swapping
 mod Taking
 mod Numbered

@@ -12,7 +12,7 @@ use Rattle.std.proofs.Math.Dec.{T}
 use Rattle.std.proofs.lemmas.Bool.{and_parts}
 use Rattle.tup_readers.proofs.Entries.{in_front, behind_front, front_or_behind, none_in}
 
-t_true : (b : Bool) → T b → b ≡ true
+pub t_true : (b : Bool) → T b → b ≡ true
 t_true true t = refl
 t_true false t = absurd t
 
@@ -81,7 +81,7 @@ module _ {K X : Type 0} {R : K → K → Ordering} (o : IsTotalOrder R) (exact :
       ∙ ap (first_or (find R q es)) (finite.get-insert o m e.0 e.1 q)
       ∙ later_or (eq_by_cmp R q e.0) e.1 (find R q es) (finite.get m q) (λ same. ap (λ (k : K). find R k es) ((decides q e.0).0 same) ∙ once.0)
 
-  none_below : (k : K) (es : List (K × X)) → below_all R k es ≡ true → find R k es ≡ None
+  pub none_below : (k : K) (es : List (K × X)) → below_all R k es ≡ true → find R k es ≡ None
   none_below k [] up = refl
   none_below k (e ∷ es) up =
       let parts = and_parts (is_lt (R k e.0)) (below_all R k es) up in
@@ -195,3 +195,26 @@ module _ {K X : Type 0} {R : K → K → Ordering} (o : IsTotalOrder R) (exact :
         ∙ ap (λ (b : Bool). cond b (Some first.1) (finite.get m q)) ((decides q first.0).1 (λ i. (sym same i).0)) ∙ (λ i. Some (same i).1))
     | inr later ↦ there_put es (put_one m first) q x later
   ]
+
+  -- ---- what stands needn't be put
+  module _ (all news : List (K × X)) (m : FinMap R X) (within : (k : K) (x : X) → Contains news (k, x) → Contains all (k, x)) (rest : (k : K) (x : X) → Contains all (k, x) → Contains news (k, x) ⊎ (finite.get m k ≡ Some x))
+      (one : (k : K) (x y : X) → Contains all (k, x) → Contains all (k, y) → x ≡ y) (others : (k : K) → finite.get (fold put_one finite.empty all) k ≡ None → finite.get m k ≡ None) where
+    in_all : (es : List (K × X)) (q : K) (x : X) → finite.get (fold put_one finite.empty es) q ≡ Some x → Contains es (q, x)
+    in_all es q x is = elim (put_there es finite.empty q x is) [
+      | inl there ↦ there
+      | inr none ↦ absurd (let wrong : None ≡ Some x = sym (finite.get-empty R q) ∙ none in cc)
+    ]
+
+    at : (q : K) (n a : Option X) → finite.get (fold put_one finite.empty news) q ≡ n → finite.get (fold put_one finite.empty all) q ≡ a → first_or n (finite.get m q) ≡ a
+    at q (Some x) (Some y) new old = ap Some (one q x y (within q x (in_all news q x new)) (in_all all q y old))
+    at q (Some x) None new old =
+        let there = there_put all finite.empty q x (within q x (in_all news q x new)) in
+        absurd (let wrong : None ≡ Some there.0 = sym old ∙ there.1 in cc)
+    at q None None new old = others q old
+    at q None (Some y) new old = elim (rest q y (in_all all q y old)) [
+      | inl there ↦ (let put = there_put news finite.empty q y there in absurd (let wrong : None ≡ Some put.0 = sym new ∙ put.1 in cc))
+      | inr stands ↦ stands
+    ]
+
+    pub put_news : fold put_one m news ≡ fold put_one finite.empty all
+    put_news = finite.same_map o exact _ _ (λ q. put_over news m q ∙ at q (finite.get (fold put_one finite.empty news) q) (finite.get (fold put_one finite.empty all) q) refl refl)

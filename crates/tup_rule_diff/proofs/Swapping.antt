@@ -29,8 +29,9 @@ use Rattle.tup_readers.proofs.Entries.{in_front, behind_front, front_or_behind, 
 use Rattle.tup_closure.proofs.Members.{number-decides}
 use Rattle.tup_closure.proofs.Stepping.{above_as}
 use Rattle.tup_rule_diff.specs.Edits.{AreSwapEdits, IsRunNow, IsToRun, place_behind, dir_of}
-use Rattle.tup_rule_diff.proofs.Puts.{Once, first_or, get_put, put_there, there_put}
-use Rattle.tup_rule_diff.proofs.Leaving.{led_graph, led_is, place_at, places_behind, readings_after, runs_after, swapped, swap_leaves, tagged}
+use Rattle.tup_rule_diff.proofs.Puts.{Once, all_put, first_or, get_put, put_news, put_one, put_there, there_put}
+use Rattle.tup_scan_diff.proofs.Editing.{found_entry}
+use Rattle.tup_rule_diff.proofs.Leaving.{led_graph, led_is, left, left_kept, none_left, place_at, places_behind, readings_after, runs_after, swapped, swap_leaves, tagged}
 
 -- ---- readings
 none_same : (dir : Names) (fresh : List (Names × Reading)) → AllByRecursion (λ (other : Names). same_path dir other ≡ false) (map dir_of fresh) → find by_names dir fresh ≡ None
@@ -111,6 +112,38 @@ module _ (g : GraphState) (fresh : List (Names × Reading)) (gone : List Names) 
 
   pub owned_come : (path : Names) → finite.get are.owned path ≡ None → finite.get g.owned path ≡ None
   owned_come path none = was_none rules path (finite.get g.owned path) (sym (are.owned_are path) ∙ none)
+
+  -- a rule keeps one record
+  pub one_run : (number : ℕ) (run other : RunRecord) → IsRunNow g rules number run → IsRunNow g rules number other → run ≡ other
+  one_run number run other (rule, before, here, was, ran) (second, earlier, there, was_there, ran_there) =
+      let one : second ≡ rule = one_value second rule (sym there ∙ here) in
+      let at : before ≡ earlier = one_before g rule before earlier was (subst (λ (r : Rule). WasAt g r earlier) one was_there) in
+      one_value run other (sym ran ∙ ap (finite.get g.runs) at ∙ ran_there)
+
+  runs_same : fold (put_one nat_cmp_total nat_cmp-IsAntisymmetric number-decides) (left are.kept g.runs) are.run_news ≡ runs_after are.runs
+  runs_same =
+      put_news nat_cmp_total nat_cmp-IsAntisymmetric number-decides are.runs are.run_news (left are.kept g.runs) are.run_news_are.within still
+      (λ number run other here there. one_run number run other ((are.runs_are number run).0 here) ((are.runs_are number other).0 there)) gone_so
+    where
+      still : (number : ℕ) (run : RunRecord) → Contains are.runs (number, run) → Contains are.run_news (number, run) ⊎ (finite.get (left are.kept g.runs) number ≡ Some run)
+      still number run here = elim (are.run_news_are.rest number run here) [
+        | inl new ↦ inl new
+        | inr stands ↦ inr (left_kept are.kept g.runs number ((are.kept_are number).1 (run, (are.runs_are number run).0 here)) ∙ stands)
+      ]
+
+      gone_so : (number : ℕ) → finite.get (runs_after are.runs) number ≡ None → finite.get (left are.kept g.runs) number ≡ None
+      gone_so number none = none_left are.kept g.runs number (by (are.kept number) refl)
+        where
+          by : (b : Bool) → are.kept number ≡ b → b ≡ false
+          by true is = absurd (kept_come number is none)
+          by false is = refl
+
+  owned_same : fold (put_one by_names-total by_names-antisymmetric by_names-decides) g.owned are.owned_news ≡ are.owned
+  owned_same =
+      put_news by_names-total by_names-antisymmetric by_names-decides (finite.entries are.owned) are.owned_news g.owned are.owned_news_are.within are.owned_news_are.rest
+      (λ path one other here there. one_value one other (sym (found_entry are.owned path one here) ∙ found_entry are.owned path other there))
+      (λ path none. owned_come path (ap (λ (m : finite.FinMap by_names Owned). finite.get m path) (sym (all_put by_names-total by_names-antisymmetric by_names-decides are.owned)) ∙ none))
+      ∙ all_put by_names-total by_names-antisymmetric by_names-decides are.owned
 
   abbrev pub after : GraphState
   after = swapped g fresh gone rules are.runs are.owned are.flags
@@ -206,7 +239,7 @@ module _ (g : GraphState) (fresh : List (Names × Reading)) (gone : List Names) 
   }
 
   pub edits_leave : length g.places ≡ length g.rules → edited_by g edits ≡ after
-  edits_leave level = ap (edited_by g) are.all ∙ swap_leaves g fresh gone rules are.runs are.owned are.flags are.kept kept_come owned_come level
+  edits_leave level = ap (edited_by g) are.all ∙ swap_leaves g fresh gone rules are.runs are.owned are.flags are.kept are.run_news are.owned_news runs_same owned_same level
 
   pub swap_noted : length g.places ≡ length g.rules → IsDistinct same_path (map dir_of fresh) → IsSwapped g fresh gone rules (edited_by g edits)
   swap_noted level once = subst (IsSwapped g fresh gone rules) (sym (edits_leave level)) (is_swapped once)

@@ -8,12 +8,12 @@ use Rattle.std.specs.Cmp.{nat_cmp_is}
 use Rattle.std.specs.List.{AllByRecursion, cons_option}
 use Rattle.std.specs.FinMap as finite
 use Rattle.std.proofs.Math.Dec.{eqb}
-use Rattle.std.proofs.lemmas.Bool.{lt-ltb, eq-eqb, and_from, cases_eq, leb-false}
+use Rattle.std.proofs.lemmas.Bool.{lt-ltb, eq-eqb, and_from, cases_eq, leb-false, true≢false}
 use Rattle.std.proofs.lemmas.List.{length-take-le}
-use Rattle.std.proofs.lemmas.List.Elements.{Contains-append_left, Contains-append_right, recursion_from_All}
+use Rattle.std.proofs.lemmas.List.Elements.{Contains-append_left, Contains-append_right, Contains-append_cases, recursion_from_All}
 use Rattle.std.proofs.lemmas.List.Quantifiers.{position-Some}
 use Rattle.std.proofs.lemmas.List.Sums.{fold-append}
-use Rattle.std.proofs.lemmas.Option.{slice_get_within}
+use Rattle.std.proofs.lemmas.Option.{same_Some, slice_get_within}
 use Rattle.tup_path.specs.Name.{Names}
 use Rattle.tup_path.specs.Order.{by_bytes, by_names, by_names-antisymmetric, same_path}
 use Rattle.tup_path.proofs.Same.{same_path-decides}
@@ -21,13 +21,14 @@ use Rattle.tup_rule.specs.Rule.{maker, writes}
 use Rattle.tup_rule.specs.declared.question.Reading.{Reading}
 use Rattle.tup_rule.specs.declared.rule.Rule.{Rule}
 use Rattle.tup_record.specs.declared.owned.OwnedState.TheVariants.{Never}
+use Rattle.tup_record.specs.declared.record.Record.{Record}
 use Rattle.tup_record.specs.declared.record.Record.TheVariants as records
 use Rattle.tup_record.specs.declared.run.RunRecord.{RunRecord}
-use Rattle.tup_record.specs.Spelling.{Fits, KeyFits}
+use Rattle.tup_record.specs.Spelling.{Fits, KeyFits, key_of as spelled_key}
 use Rattle.tup_table.specs.declared.change.Change.{Change}
 use Rattle.tup_table.specs.Entries.{Standing, IsAscending, committed, key_of}
 use Rattle.tup_graph.specs.declared.edit.Edit.{Edit}
-use Rattle.tup_graph.specs.declared.edit.Edit.TheVariants.{Remove}
+use Rattle.tup_graph.specs.declared.edit.Edit.TheVariants.{Put, Remove}
 use Rattle.tup_graph.specs.declared.owned.Owned.{Owned}
 use Rattle.tup_graph.specs.Above.{AboveOver, HasReadOf}
 use Rattle.tup_graph.specs.Changes.{changes_it, last_changes, once_made}
@@ -37,16 +38,19 @@ use Rattle.tup_graph.specs.Opening.{fits, comes_behind, last_of, IsGraphOf}
 use Rattle.tup_graph.specs.Swap.{owned_now, ReadsNew}
 use Rattle.tup_graph.specs.Transactions.{flag_edits}
 use Rattle.tup_graph.proofs.Bare.{level_of}
+use Rattle.tup_graph.proofs.Marks.{mark_of, one_mark, one_number, one_path}
 use Rattle.tup_graph.proofs.Needed.{needed_read}
 use Rattle.tup_graph.proofs.Turns.{turns_read, taken_so, taken_both}
 use Rattle.tup_readers.proofs.Entries.{in_front, behind_front, front_or_behind, none_in}
-use Rattle.tup_scan_diff.proofs.Editing.{found_entry}
+use Rattle.tup_scan_diff.proofs.Editing.{filter_in, found_entry}
 use Rattle.tup_scan_diff.proofs.Paths.{last_item}
-use Rattle.tup_rule_diff.specs.Edits.{AreSwapEdits, unflag, uncreate, unrun, unrun_edits, clear_edits, goes, unread, read_so, reading_edits, less_edits, no_rule, rule_less, more_edits, rule_more, place_behind, run_so, own_so, IsToRun}
+use Rattle.tup_rule_diff.specs.Edits.{AreSwapEdits, unflag, uncreate, unrun, unrun_edits, clear_edits, goes, unread, read_so, reading_edits, less_edits, no_rule, rule_less, more_edits, rule_more, place_behind, run_so, own_so, IsRunNow, IsToRun}
 use Rattle.tup_rule_diff.specs.Order.{AreByFolder}
 use Rattle.tup_rule_diff.proofs.Leaving.{Owners, places_behind, led_graph, left, edits_of, read_anew, bare, ruled, run_again, owned_again, is_last, leaves_all, leaves_read, leaves_bare, leaves_ruled, leaves_run, leaves_owned}
-use Rattle.tup_rule_diff.proofs.Covered.{Covered, after, after_both, all_left_out, covers, last_as, rules_left_out}
-use Rattle.tup_rule_diff.proofs.Swapping.{edits_leave, owned_come, run_is, to_run}
+use Rattle.tup_rule_diff.proofs.News.{needed_same}
+use Rattle.tup_rule_diff.proofs.Stood.{changes_nothing, owner_stands, run_stands}
+use Rattle.tup_rule_diff.proofs.Covered.{Covered, Last, after, after_both, all_left_out, covers, last_as, mapped, rules_left_out}
+use Rattle.tup_rule_diff.proofs.Swapping.{edits_leave, one_run, owned_come, run_is, to_run}
 use Rattle.tup_rule_diff.proofs.Whole.{all_cleared, unown, unrun_so, whole_clear, whole_clears, whole_less, whole_less_leaves}
 
 -- ---- spellings of two lists of edits
@@ -334,12 +338,36 @@ stays_below count k stays = leb-false count k (by (nat_eq k 0) (nat_le count k) 
     by true b e = absurd (let wrong : true ≡ false = e in cc)
     by false b e = e
 
-mapped : {X : Type 0} (f : X → Edit) (xs : List X) (edit : Edit) → Contains (map f xs) edit → (x : X) × Contains xs x × (f x ≡ edit)
-mapped f [] edit h = absurd (none_in edit h)
-mapped f (x ∷ xs) edit h = elim (front_or_behind (f x) edit (map f xs) h) [
-  | inl same ↦ (x, in_front x xs, same)
-  | inr later ↦ let there = mapped f xs edit later in (there.0, behind_front x there.0 xs there.1, there.2)
+-- each of a list is spelled where it or all are
+member_spelled : {X : Type 0} (f : X → Edit) (xs : List X) (x : X) → AllByRecursion HasSpelling (map f xs) → Contains xs x → HasSpelling (f x)
+member_spelled f [] x all h = absurd (none_in x h)
+member_spelled f (first ∷ xs) x all h = elim (front_or_behind first x xs h) [
+  | inl same ↦ subst (λ y. HasSpelling (f y)) same all.0
+  | inr later ↦ member_spelled f xs x all.1 later
 ]
+
+each_spelled : {X : Type 0} (f : X → Edit) (xs : List X) → ((x : X) → Contains xs x → HasSpelling (f x)) → AllByRecursion HasSpelling (map f xs)
+each_spelled f [] each = tt
+each_spelled f (x ∷ xs) each = (each x (in_front x xs), each_spelled f xs (λ y h. each y (behind_front x y xs h)))
+
+as_they_are : (edits : List Edit) → AllByRecursion HasSpelling edits → AllByRecursion HasSpelling (map (λ (e : Edit). e) edits)
+as_they_are [] all = tt
+as_they_are (e ∷ edits) all = (all.0, as_they_are edits all.1)
+
+-- the record of an edit, and the mark of its key
+abbrev record_of : Edit → Record
+record_of (Put r) = r
+record_of (Remove r) = r
+
+abbrev IsMarked : ℕ → Edit → Type 0
+IsMarked mark edit = mark_of (record_of edit) ≡ mark
+
+all_marked : (mark : ℕ) {X : Type 0} (f : X → Edit) (xs : List X) → ((x : X) → IsMarked mark (f x)) → (edit : Edit) → Contains (map f xs) edit → IsMarked mark edit
+all_marked mark f xs each edit h = let found = mapped f xs edit h in subst (IsMarked mark) found.2 (each found.0)
+
+record_key : (edit : Edit) → key_of (change_of edit) ≡ spelled_key (record_of edit)
+record_key (Put r) = refl
+record_key (Remove r) = refl
 
 in_mapped : {X : Type 0} (f : X → Edit) (xs : List X) (x : X) → Contains xs x → Contains (map f xs) (f x)
 in_mapped f [] x h = absurd (none_in x h)
@@ -566,12 +594,229 @@ module _ (g : GraphState) (fresh : List (Names × Reading)) (gone : List Names) 
         ∙ is_last g fresh gone rules are.runs are.owned are.flags (whole_clear are.kept g are.owned are.runs) (whole_less 0 g.rules) finite.empty finite.empty (λ q none. finite.get-empty nat_cmp q) (λ q none. finite.get-empty by_names q)
         ∙ sym (edits_leave g fresh gone rules edits are level)
 
+  -- ---- what stands needn't be put
+  abbrev short : List Edit
+  short = clear_edits are.kept g ++ reading_edits g fresh gone ++ less_edits (length rules) 0 g.rules ++ more_edits [] rules ++ map run_so are.run_news ++ map own_so are.owned_news ++ flag_edits are.flags
+
+  abbrev before_puts : List Edit
+  before_puts = clear_edits are.kept g ++ reading_edits g fresh gone ++ less_edits (length rules) 0 g.rules ++ more_edits [] rules
+
+  abbrev all_runs : List Edit
+  all_runs = map run_so are.runs
+
+  abbrev all_owned : List Edit
+  all_owned = map own_so (finite.entries are.owned)
+
+  abbrev new_runs : List Edit
+  new_runs = map run_so are.run_news
+
+  abbrev new_owned : List Edit
+  new_owned = map own_so are.owned_news
+
+  puts_line : (ran owns : List Edit) → before_puts ++ ran ++ owns ++ flag_edits are.flags ≡ before_puts ++ ((ran ++ owns) ++ flag_edits are.flags)
+  puts_line ran owns =
+      let flagged = flag_edits are.flags in
+      append_assoc (before_puts ++ ran) owns flagged ∙ append_assoc before_puts ran (owns ++ flagged) ∙ ap (λ (l : List Edit). before_puts ++ l) (sym (append_assoc ran owns flagged))
+
+  -- what comes before the puts is of other kinds, or takes away a record that isn't kept
+  abbrev IsGone : Edit → Type 0
+  IsGone edit = (run : ℕ × RunRecord) × (are.kept run.0 ≡ false) × (unrun run ≡ edit)
+
+  abbrev IsOther : Edit → Type 0
+  IsOther edit = (IsMarked 4 edit → ⊥) × (IsMarked 5 edit → ⊥)
+
+  other_mark : (mark : ℕ) (edit : Edit) → (mark ≡ 4 → ⊥) → (mark ≡ 5 → ⊥) → IsMarked mark edit → IsOther edit
+  other_mark mark edit four five is = (λ e. four (sym is ∙ e), λ e. five (sym is ∙ e))
+
+  two_other : (edit : Edit) → IsMarked 2 edit → IsOther edit
+  two_other edit = other_mark 2 edit (λ e. omega (arith, e)) (λ e. omega (arith, e))
+
+  three_other : (edit : Edit) → IsMarked 3 edit → IsOther edit
+  three_other edit = other_mark 3 edit (λ e. omega (arith, e)) (λ e. omega (arith, e))
+
+  not_kept : (b : Bool) → not b ≡ true → b ≡ false
+  not_kept true e = sym e
+  not_kept false e = refl
+
+  cleared_so : (edit : Edit) → Contains (clear_edits are.kept g) edit → IsGone edit ⊎ IsOther edit
+  cleared_so edit h = elim (Contains-append_cases flags_go runs_go edit h) [
+    | inl first ↦ inr (elim (Contains-append_cases (map unflag (finite.entries g.flags)) (map uncreate (finite.entries g.created)) edit first) [
+      | inl flag ↦ other_mark 7 edit (λ e. omega (arith, e)) (λ e. omega (arith, e)) (all_marked 7 unflag (finite.entries g.flags) (λ x. refl) edit flag)
+      | inr mark ↦ other_mark 6 edit (λ e. omega (arith, e)) (λ e. omega (arith, e)) (all_marked 6 uncreate (finite.entries g.created) (λ x. refl) edit mark)
+    ])
+    | inr run ↦ (let found = mapped unrun (filter (λ (one : ℕ × RunRecord). not (are.kept one.0)) (finite.entries g.runs)) edit run in
+        let there = filter_in (λ (one : ℕ × RunRecord). not (are.kept one.0)) (finite.entries g.runs) found.0 found.1 in
+        inl (found.0, not_kept (are.kept found.0.0) there.1, found.2))
+  ]
+
+  unread_marked : (dirs : List Names) (edit : Edit) → Contains (filter_map (unread g) dirs) edit → IsMarked 2 edit
+  unread_marked [] edit h = absurd (none_in edit h)
+  unread_marked (dir ∷ dirs) edit h = by (finite.get g.readings dir) (unread_marked dirs edit) h
+    where
+      by : (found : Option Reading) → (Contains (filter_map (unread g) dirs) edit → IsMarked 2 edit) → Contains (cons_option (option_map (λ (reading : Reading). Remove (records.Reading dir reading)) found) (filter_map (unread g) dirs)) edit → IsMarked 2 edit
+      by None next h = next h
+      by (Some reading) next h = elim (front_or_behind (Remove (records.Reading dir reading)) edit (filter_map (unread g) dirs) h) [
+        | inl same ↦ subst (IsMarked 2) same refl
+        | inr later ↦ next later
+      ]
+
+  less_marked : (count n : ℕ) (some : List Rule) (edit : Edit) → Contains (less_edits count n some) edit → IsMarked 3 edit
+  less_marked count n [] edit h = absurd (none_in edit h)
+  less_marked count n (rule ∷ some) edit h = elim (Contains-append_cases (less_edits count (suc n) some) (cond (goes count n) (rule_less n ∷ []) []) edit h) [
+    | inl later ↦ less_marked count (suc n) some edit later
+    | inr here ↦ by (goes count n) here
+  ]
+    where
+      by : (b : Bool) → Contains (cond b (rule_less n ∷ []) []) edit → IsMarked 3 edit
+      by true h = elim (front_or_behind (rule_less n) edit [] h) [
+        | inl same ↦ subst (IsMarked 3) same refl
+        | inr later ↦ absurd (none_in edit later)
+      ]
+      by false h = absurd (none_in edit h)
+
+  more_marked : (before some : List Rule) (edit : Edit) → Contains (more_edits before some) edit → IsMarked 3 edit
+  more_marked before [] edit h = absurd (none_in edit h)
+  more_marked before (rule ∷ some) edit h = elim (front_or_behind (rule_more (length before) (place_behind before rule) rule) edit (more_edits (before ++ rule ∷ []) some) h) [
+    | inl same ↦ subst (IsMarked 3) same refl
+    | inr later ↦ more_marked (before ++ rule ∷ []) some edit later
+  ]
+
+  before_so : (edit : Edit) → Contains before_puts edit → IsGone edit ⊎ IsOther edit
+  before_so edit h =
+      let clear = clear_edits are.kept g in
+      let read_so_far = reading_edits g fresh gone in
+      let less = less_edits (length rules) 0 g.rules in
+      elim (Contains-append_cases (clear ++ read_so_far ++ less) (more_edits [] rules) edit h) [
+        | inr more ↦ inr (three_other edit (more_marked [] rules edit more))
+        | inl first ↦ elim (Contains-append_cases (clear ++ read_so_far) less edit first) [
+          | inr one ↦ inr (three_other edit (less_marked (length rules) 0 g.rules edit one))
+          | inl second ↦ elim (Contains-append_cases clear read_so_far edit second) [
+            | inl third ↦ cleared_so edit third
+            | inr read_edit ↦ inr (two_other edit (elim (Contains-append_cases (filter_map (unread g) gone) (map read_so fresh) edit read_edit) [
+              | inl one ↦ unread_marked gone edit one
+              | inr one ↦ all_marked 2 read_so fresh (λ x. refl) edit one
+            ]))
+          ]
+        ]
+      ]
+
+  module _ (entries : Standing) (up : IsAscending entries) (is : IsGraphOf entries g) (spelled : AllByRecursion HasSpelling short) where
+    puts_spelled : AllByRecursion HasSpelling (before_puts ++ new_runs ++ new_owned)
+    puts_spelled = front (before_puts ++ new_runs ++ new_owned) (flag_edits are.flags) spelled
+
+    first_spelled : AllByRecursion HasSpelling (before_puts ++ new_runs)
+    first_spelled = front (before_puts ++ new_runs) new_owned puts_spelled
+
+    run_spelled : (run : ℕ × RunRecord) → Contains are.runs run → HasSpelling (run_so run)
+    run_spelled run h = elim (are.run_news_are.rest run.0 run.1 h) [
+      | inl new ↦ member_spelled run_so are.run_news run (rest before_puts new_runs first_spelled) new
+      | inr stands ↦ (run_stands entries g up is run.0 run.1 stands).0
+    ]
+
+    own_spelled : (one : Names × Owned) → Contains (finite.entries are.owned) one → HasSpelling (own_so one)
+    own_spelled one h = elim (are.owned_news_are.rest one.0 one.1 h) [
+      | inl new ↦ member_spelled own_so are.owned_news one (rest (before_puts ++ new_runs) new_owned puts_spelled) new
+      | inr stands ↦ (owner_stands entries g up is one.0 one.1 stands).0
+    ]
+
+    fewer_spelled : AllByRecursion HasSpelling fewer
+    fewer_spelled =
+        joined HasSpelling (before_puts ++ all_runs ++ all_owned) (flag_edits are.flags)
+        (joined HasSpelling (before_puts ++ all_runs) all_owned (joined HasSpelling before_puts all_runs (front before_puts new_runs first_spelled) (each_spelled run_so are.runs run_spelled)) (each_spelled own_so (finite.entries are.owned) own_spelled))
+        (rest (before_puts ++ new_runs ++ new_owned) (flag_edits are.flags) spelled)
+
+    news_within : (edit : Edit) → Contains (new_runs ++ new_owned) edit → Contains (all_runs ++ all_owned) edit
+    news_within edit h = elim (Contains-append_cases new_runs new_owned edit h) [
+      | inl run ↦ (let x = mapped run_so are.run_news edit run in
+          subst (Contains (all_runs ++ all_owned)) x.2 (Contains-append_left all_runs all_owned (run_so x.0) (in_mapped run_so are.runs x.0 (are.run_news_are.within x.0.0 x.0.1 x.1))))
+      | inr own ↦ (let x = mapped own_so are.owned_news edit own in
+          subst (Contains (all_runs ++ all_owned)) x.2 (Contains-append_right all_runs all_owned (own_so x.0) (in_mapped own_so (finite.entries are.owned) x.0 (are.owned_news_are.within x.0.0 x.0.1 x.1))))
+    ]
+
+    abbrev Stays : Edit → Type 0
+    Stays edit = changes_it entries (change_of edit) ≡ false
+
+    puts_rest : (edit : Edit) → Contains (all_runs ++ all_owned) edit → Contains (new_runs ++ new_owned) edit ⊎ Stays edit
+    puts_rest edit h = elim (Contains-append_cases all_runs all_owned edit h) [
+      | inl run ↦ (let x = mapped run_so are.runs edit run in elim (are.run_news_are.rest x.0.0 x.0.1 x.1) [
+        | inl new ↦ inl (subst (Contains (new_runs ++ new_owned)) x.2 (Contains-append_left new_runs new_owned (run_so x.0) (in_mapped run_so are.run_news x.0 new)))
+        | inr stands ↦ inr (subst Stays x.2 (changes_nothing entries (records.Run x.0.0 x.0.1) (run_stands entries g up is x.0.0 x.0.1 stands)))
+      ])
+      | inr own ↦ (let x = mapped own_so (finite.entries are.owned) edit own in elim (are.owned_news_are.rest x.0.0 x.0.1 x.1) [
+        | inl new ↦ inl (subst (Contains (new_runs ++ new_owned)) x.2 (Contains-append_right new_runs new_owned (own_so x.0) (in_mapped own_so are.owned_news x.0 new)))
+        | inr stands ↦ inr (subst Stays x.2 (changes_nothing entries (records.Owned x.0.0 x.0.1.maker x.0.1.state) (owner_stands entries g up is x.0.0 x.0.1 stands)))
+      ])
+    ]
+
+    -- one key, one change
+    abbrev SameKey : Edit → Edit → Type 0
+    SameKey edit other = key_of (change_of edit) ≡ key_of (change_of other)
+
+    two_runs : (x y : ℕ × RunRecord) → Contains are.runs x → Contains are.runs y → SameKey (run_so x) (run_so y) → change_of (run_so x) ≡ change_of (run_so y)
+    two_runs x y here there same =
+        let number : x.0 ≡ y.0 = one_number 4 x.0 y.0 (run_spelled x here).0 (run_spelled y there).0 same in
+        let record_is : x.1 ≡ y.1 =
+        one_run g fresh gone rules edits are y.0 x.1 y.1 (subst (λ (n : ℕ). IsRunNow g rules n x.1) number ((are.runs_are x.0 x.1).0 here)) ((are.runs_are y.0 y.1).0 there) in
+        (λ i. change_of (run_so (number i, record_is i)))
+
+    two_owned : (x y : Names × Owned) → Contains (finite.entries are.owned) x → Contains (finite.entries are.owned) y → SameKey (own_so x) (own_so y) → change_of (own_so x) ≡ change_of (own_so y)
+    two_owned x y here there same =
+        let path_is : x.0 ≡ y.0 = one_path 5 x.0 y.0 (own_spelled x here).0 (own_spelled y there).0 same in
+        let one : x.1 ≡ y.1 = same_Some x.1 y.1 (sym (found_entry are.owned x.0 x.1 here) ∙ ap (finite.get are.owned) path_is ∙ found_entry are.owned y.0 y.1 there) in
+        (λ i. change_of (own_so (path_is i, one i)))
+
+    apart_kinds : (x : ℕ × RunRecord) (y : Names × Owned) → SameKey (run_so x) (own_so y) → ⊥
+    apart_kinds x y same = let wrong : 4 ≡ 5 = one_mark (records.Run x.0 x.1) (records.Owned y.0 y.1.maker y.1.state) same in omega (arith, wrong)
+
+    one_change : (edit other : Edit) → Contains (all_runs ++ all_owned) edit → Contains (all_runs ++ all_owned) other → SameKey edit other → change_of edit ≡ change_of other
+    one_change edit other h k same = elim (Contains-append_cases all_runs all_owned edit h) [
+      | inl run ↦ (let x = mapped run_so are.runs edit run in elim (Contains-append_cases all_runs all_owned other k) [
+        | inl run_too ↦ (let y = mapped run_so are.runs other run_too in sym (ap change_of x.2) ∙ two_runs x.0 y.0 x.1 y.1 (keys x.2 y.2) ∙ ap change_of y.2)
+        | inr own_too ↦ (let y = mapped own_so (finite.entries are.owned) other own_too in absurd (apart_kinds x.0 y.0 (keys x.2 y.2)))
+      ])
+      | inr own ↦ (let x = mapped own_so (finite.entries are.owned) edit own in elim (Contains-append_cases all_runs all_owned other k) [
+        | inl run_too ↦ (let y = mapped run_so are.runs other run_too in absurd (apart_kinds y.0 x.0 (sym (keys x.2 y.2))))
+        | inr own_too ↦ (let y = mapped own_so (finite.entries are.owned) other own_too in sym (ap change_of x.2) ∙ two_owned x.0 y.0 x.1 y.1 (keys x.2 y.2) ∙ ap change_of y.2)
+      ])
+    ]
+      where
+        keys : {a b : Edit} → a ≡ edit → b ≡ other → SameKey a b
+        keys {a} {b} first second = ap (λ (e : Edit). key_of (change_of e)) first ∙ same ∙ sym (ap (λ (e : Edit). key_of (change_of e)) second)
+
+    -- nothing before the puts has a key of one of them
+    marks_of : (edit other : Edit) → SameKey edit other → mark_of (record_of edit) ≡ mark_of (record_of other)
+    marks_of edit other same = one_mark (record_of edit) (record_of other) (sym (record_key edit) ∙ same ∙ record_key other)
+
+    apart_before : (edit other : Edit) → Contains (all_runs ++ all_owned) edit → Contains before_puts other → SameKey other edit → ⊥
+    apart_before edit other h k same = by (before_so other k) (Contains-append_cases all_runs all_owned edit h)
+      where
+        by : IsGone other ⊎ IsOther other → Contains all_runs edit ⊎ Contains all_owned edit → ⊥
+        by (inr apart) (inl run) = let x = mapped run_so are.runs edit run in apart.0 (marks_of other edit same ∙ sym (ap (λ (e : Edit). mark_of (record_of e)) x.2))
+        by (inr apart) (inr own) = let x = mapped own_so (finite.entries are.owned) edit own in apart.1 (marks_of other edit same ∙ sym (ap (λ (e : Edit). mark_of (record_of e)) x.2))
+        by (inl gone_one) (inr own) =
+            let x = mapped own_so (finite.entries are.owned) edit own in
+            let wrong : 4 ≡ 5 = ap (λ (e : Edit). mark_of (record_of e)) gone_one.2 ∙ marks_of other edit same ∙ sym (ap (λ (e : Edit). mark_of (record_of e)) x.2) in omega (arith, wrong)
+        by (inl gone_one) (inl run) =
+            let x = mapped run_so are.runs edit run in
+            let fits_gone : HasSpelling other = member_spelled (λ (e : Edit). e) before_puts other (as_they_are before_puts (front before_puts new_runs first_spelled)) k in
+            let number : gone_one.0.0 ≡ x.0.0 =
+            one_number 4 gone_one.0.0 x.0.0 (subst HasSpelling (sym gone_one.2) fits_gone).0 (run_spelled x.0 x.1).0
+            (ap (λ (e : Edit). key_of (change_of e)) gone_one.2 ∙ same ∙ sym (ap (λ (e : Edit). key_of (change_of e)) x.2)) in
+            let kept_so = (are.kept_are x.0.0).1 (x.0.1, (are.runs_are x.0.0 x.0.1).0 x.1) in
+            true≢false (sym kept_so ∙ ap are.kept (sym number) ∙ gone_one.1)
+
+    -- what is needed is the same
+    needed_so : filter (changes_it entries) (finite.values (last_changes (map change_of whole))) ≡ filter (changes_it entries) (finite.values (last_changes (map change_of edits)))
+    needed_so =
+        ap (λ (last : Last). filter (changes_it entries) (finite.values last)) (last_as whole ∙ same_last ∙ ap (after finite.empty) (puts_line all_runs all_owned))
+        ∙ needed_same (changes_it entries) before_puts (all_runs ++ all_owned) (new_runs ++ new_owned) (flag_edits are.flags) news_within puts_rest one_change apart_before
+        ∙ ap (λ (last : Last). filter (changes_it entries) (finite.values last)) (ap (after finite.empty) (sym (puts_line new_runs new_owned)) ∙ sym (last_as short) ∙ ap (λ (l : List Edit). last_changes (map change_of l)) (sym are.all))
+
   pub swap_read : (entries : Standing) (origin : ℕ) → IsAscending entries → IsGraphOf entries g → AreByFolder rules → All HasSpelling edits → IsGraphOf (once_made origin entries edits) (edited_by g edits)
   swap_read entries origin up is ordered spelled =
       let level = level_of entries g is in
-      let all = all_spelled (recursion_from_All HasSpelling fewer (subst (All HasSpelling) are.all spelled)) in
-      let same : last_changes (map change_of whole) ≡ last_changes (map change_of edits) =
-      last_as whole ∙ same_last ∙ sym (last_as fewer) ∙ ap (λ (l : List Edit). last_changes (map change_of l)) (sym are.all) in
-      subst (λ (last : finite.FinMap by_bytes Change). IsGraphOf (committed origin entries (filter (changes_it entries) (finite.values last))) (edited_by g edits)) same
+      let short_spelled = recursion_from_All HasSpelling short (subst (All HasSpelling) are.all spelled) in
+      let all = all_spelled (fewer_spelled entries up is short_spelled) in
+      subst (λ (changes : List Change). IsGraphOf (committed origin entries changes) (edited_by g edits)) (needed_so entries up is short_spelled)
       (subst (IsGraphOf (once_made origin entries whole)) (whole_leaves level)
       (needed_read entries (map change_of whole) origin (edited_by g whole) up (turns_read origin whole entries g up is (all_taken level ordered all))))

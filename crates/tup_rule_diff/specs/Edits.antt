@@ -134,14 +134,40 @@ SwapSteppedAtMost g rules before after = (led : GraphState) → IsLed g rules le
 abbrev pub IsToRun : GraphState → GraphState → ℕ → Type 0
 IsToRun g led number = IsFlaggedYet g led number ⊎ IsAbove led (ReadsNew g led) number
 
+-- some of a list, which has the others too: each of these stands already
+pub record AreNews {K X : Type 0} (Stands : K → X → Type 0) (all news : List (K × X)) : Type 0 where
+  pub within : (k : K) (x : X) → Contains news (k, x) → Contains all (k, x)
+  pub rest : (k : K) (x : X) → Contains all (k, x) → Contains news (k, x) ⊎ Stands k x
+
+-- edits, and behind them the puts of those of a list that don't stand
+abbrev pub PutsNews : {K X : Type 0} → (K → X → Type 0) → (K × X → Edit) → List (K × X) → List Edit → List Edit → Type 0
+PutsNews {K} {X} Stands put all old new = (news : List (K × X)) × AreNews Stands all news × (new ≡ old ++ map put news)
+
+-- the rule of a number had the same number before
+abbrev pub HadNumber : List (Option ℕ) → ℕ → RunRecord → Type 0
+HadNumber befores number run = slice_get befores number ≡ Some (Some number)
+
+-- a path was owned so before
+abbrev pub WasOwned : GraphState → Names → Owned → Type 0
+WasOwned g path one = finite.get g.owned path ≡ Some one
+
+-- edits, and behind them the puts of records of runs and of owned paths that don't stand, and flags
+abbrev pub PutsAll : GraphState → List (Option ℕ) → List (ℕ × RunRecord) → finite.FinMap by_names Owned → List ℕ → List Edit → List Edit → Type 0
+PutsAll g befores runs owned flags old new =
+    (run_news : List (ℕ × RunRecord)) × (owned_news : List (Names × Owned)) × AreNews (HadNumber befores) runs run_news × AreNews (WasOwned g) (finite.entries owned) owned_news × (new ≡ old ++ map run_so run_news ++ map own_so owned_news ++ flag_edits flags)
+
 -- all of it
 pub record AreSwapEdits (g : GraphState) (fresh : List (Names × Reading)) (gone : List Names) (rules : List Rule) (edits : List Edit) : Type 0 where
   pub runs : List (ℕ × RunRecord)
   pub kept : ℕ → Bool
   pub owned : finite.FinMap by_names Owned
+  pub run_news : List (ℕ × RunRecord)
+  pub owned_news : List (Names × Owned)
   pub flags : List ℕ
   pub runs_are : (number : ℕ) (run : RunRecord) → Contains runs (number, run) ↔ IsRunNow g rules number run
   pub kept_are : (number : ℕ) → (kept number ≡ true) ↔ ((run : RunRecord) × IsRunNow g rules number run)
   pub owned_are : (path : Names) → finite.get owned path ≡ owned_now rules path (finite.get g.owned path)
+  pub run_news_are : AreNews (λ number run. finite.get g.runs number ≡ Some run) runs run_news
+  pub owned_news_are : AreNews (WasOwned g) (finite.entries owned) owned_news
   pub flags_are : (number : ℕ) → Contains flags number ↔ IsToRun g (led_by rules runs) number
-  pub all : edits ≡ clear_edits kept g ++ reading_edits g fresh gone ++ less_edits (length rules) 0 g.rules ++ more_edits [] rules ++ map run_so runs ++ map own_so (finite.entries owned) ++ flag_edits flags
+  pub all : edits ≡ clear_edits kept g ++ reading_edits g fresh gone ++ less_edits (length rules) 0 g.rules ++ more_edits [] rules ++ map run_so run_news ++ map own_so owned_news ++ flag_edits flags

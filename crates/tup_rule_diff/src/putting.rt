@@ -1,17 +1,17 @@
 //! What a swap puts in: readings, rules, records of runs, owned paths and flags.
-ghost use Rattle.std.specs.Prelude.{◌≡◌, ◌++◌, ◌+◌, [], Ok, map, if◌then◌else◌, IfOk, IfErr, OnOk};
+ghost use Rattle.std.specs.Prelude.{◌≡◌, ◌∷◌, ◌++◌, ◌+◌, [], Some, Ok, map, slice_get, if◌then◌else◌, IfOk, IfErr, IsTrue, OnOk};
 ghost use Rattle.std.specs.FinMap as finite;
 ghost use Rattle.tup_path.specs.Gives.{GivesUnless};
 ghost use Rattle.tup_path.specs.Name.{Names};
 ghost use Rattle.tup_path.specs.Order.{same_path};
 ghost use Rattle.tup_graph.specs.Transactions.{flag_edits};
 ghost use Rattle.tup_rule_diff.specs.Before.{count_of};
-ghost use Rattle.tup_rule_diff.specs.Edits.{more_edits, rule_more, own_so as own_of, read_so as read_of, run_so as run_of};
+ghost use Rattle.tup_rule_diff.specs.Edits.{HadNumber, PutsNews, WasOwned, more_edits, rule_more, own_so as own_of, read_so as read_of, run_so as run_of};
 
 use crate::before::number_of;
 use std::alloc::Global;
 use tup_closure::Lists;
-use tup_graph::{Edit, Edits, GraphFault, Owned};
+use tup_graph::{Edit, Edits, GraphFault, Nodes, Owned};
 use tup_path::{ByPath, Path};
 use tup_record::{Record, RunRecord};
 use tup_rule::{Reading, Rule};
@@ -93,15 +93,89 @@ fn recorded(number: u32, run: &RunRecord) -> Result<Edit, GraphFault>
     }))
 }
 
-/// Paths are owned so.
-pub(crate) fn push_owned(edits: &mut Edits, owned: &ByPath<Owned>) -> Result<(), GraphFault>
-    ensures ok { OnOk result (edits.new ≡ edits.old ++ map own_of (finite.entries owned.now)) }
+/// Records of runs are put, save those that stand under these numbers already.
+pub(crate) fn push_new_runs(
+    edits: &mut Edits,
+    befores: &[Option<u32>],
+    runs: &[(u32, RunRecord)],
+) -> Result<(), GraphFault>
+    ensures ok { OnOk result
+        (PutsNews (HadNumber befores.now) run_of runs.now edits.old edits.new) }
+    ensures err { IfErr result (λ fault. fault ≡ GraphFault.Memory) }
+{
+    for (number, run) in runs {
+        push_if_moved(edits, befores, *number, run)?;
+    }
+    Ok(())
+}
+
+/// The record of a run is put, unless its rule had this number before.
+fn push_if_moved(
+    edits: &mut Edits,
+    befores: &[Option<u32>],
+    number: u32,
+    run: &RunRecord,
+) -> Result<(), GraphFault>
+    ensures ok { OnOk result (PutsNews (HadNumber befores.now) run_of ((number, run.now) ∷ [])
+        edits.old edits.new) }
+    ensures err { IfErr result (λ fault. fault ≡ GraphFault.Memory) }
+{
+    if had_number(befores, number) {
+        return Ok(());
+    }
+    edits.push(recorded(number, run)?)?;
+    Ok(())
+}
+
+/// Whether the rule of a number had it before.
+fn had_number(befores: &[Option<u32>], number: u32) -> bool
+    ensures { IsTrue result → slice_get befores.now number ≡ Some (Some number) }
+{
+    match befores.get(number as usize) {
+        Some(before) => *before == Some(number),
+        None => false,
+    }
+}
+
+/// Owned paths are put, save those that are owned so already.
+pub(crate) fn push_new_owned(
+    edits: &mut Edits,
+    nodes: &Nodes,
+    owned: &ByPath<Owned>,
+) -> Result<(), GraphFault>
+    ensures ok { OnOk result (PutsNews (WasOwned nodes.now) own_of (finite.entries owned.now)
+        edits.old edits.new) }
     ensures err { IfErr result (λ fault. fault ≡ GraphFault.Memory) }
 {
     for (path, one) in owned.iter() {
-        edits.push(own(path, one)?)?;
+        push_if_changed(edits, nodes, path, one)?;
     }
     Ok(())
+}
+
+/// An owned path is put, unless it is owned so already.
+fn push_if_changed(
+    edits: &mut Edits,
+    nodes: &Nodes,
+    path: &Path,
+    one: &Owned,
+) -> Result<(), GraphFault>
+    ensures ok { OnOk result (PutsNews (WasOwned nodes.now) own_of ((path.now, one.now) ∷ [])
+        edits.old edits.new) }
+    ensures err { IfErr result (λ fault. fault ≡ GraphFault.Memory) }
+{
+    if was_owned(nodes, path, one) {
+        return Ok(());
+    }
+    edits.push(own(path, one)?)?;
+    Ok(())
+}
+
+/// Whether a path was owned so before.
+fn was_owned(nodes: &Nodes, path: &Path, one: &Owned) -> bool
+    ensures { IsTrue result → finite.get nodes.now.owned path.now ≡ Some one.now }
+{
+    nodes.owner(path) == Some(*one)
 }
 
 fn own(path: &Path, owned: &Owned) -> Result<Edit, GraphFault>

@@ -1,14 +1,12 @@
 //! A swap of rules.
-ghost use Rattle.std.specs.Prelude.{◌≡◌, ◌++◌, [], length, map, IfOk, IfErr, OnErr, OnOk};
-ghost use Rattle.std.specs.FinMap as finite;
-ghost use Rattle.tup_graph.specs.Transactions.{flag_edits};
-ghost use Rattle.tup_rule_diff.specs.Edits.{AreSwapEdits, SwapStepped, SwapSteppedAtMost, clear_edits, less_edits, more_edits, own_so, reading_edits, run_so};
+ghost use Rattle.std.specs.Prelude.{◌≡◌, ◌++◌, [], length, IfOk, IfErr, OnErr, OnOk};
+ghost use Rattle.tup_rule_diff.specs.Edits.{AreSwapEdits, PutsAll, SwapStepped, SwapSteppedAtMost, clear_edits, less_edits, more_edits, reading_edits};
 ghost use Rattle.tup_rule_diff.specs.Running.{keeps_run};
 
 use crate::before::numbers_before;
 use crate::clearing::{push_cleared, push_less, push_unread};
 use crate::owners::owned_now;
-use crate::putting::{push_flags, push_fresh, push_more, push_owned, push_runs};
+use crate::putting::{push_flags, push_fresh, push_more, push_new_owned, push_new_runs};
 use crate::running::{flags_now, runs_now};
 use std::alloc::Global;
 use std::sync::ledger::Ledger;
@@ -30,7 +28,8 @@ pub struct Refreshed {
 /// whose records ask an output of a new one, and all that recorded reads lead to from these. An output is owned by the
 /// first rule that has it, and other owned paths have no maker; states stay, and what is newly owned was never written.
 ///
-/// What doesn't come again is taken away, and what is there now is put in: of each key the last edit counts.
+/// What doesn't come again is taken away, and what is there now is put in, save what stands already: of each key the last edit
+/// counts.
 ///
 /// By the records that the rules keep, from those that ask an output of a new rule, it takes the steps of `above`; after a
 /// refusal it has taken no more.
@@ -59,11 +58,11 @@ pub fn swap_rules<L: Ledger>(
     )?;
     let owned = owned_now(alloc, nodes, rules)?;
     let mut edits = Items::new(alloc);
-    push_away(alloc, &mut edits, nodes, fresh, befores.as_slice(), rules)?;
+    push_rules(alloc, &mut edits, nodes, fresh, befores.as_slice(), rules)?;
     push_now(
-        alloc,
         &mut edits,
-        rules,
+        nodes,
+        befores.as_slice(),
         runs.as_slice(),
         &owned,
         flags.as_slice(),
@@ -71,8 +70,8 @@ pub fn swap_rules<L: Ledger>(
     Ok(edits)
 }
 
-/// What goes and doesn't come again, and the readings that come.
-fn push_away(
+/// What goes and doesn't come again, and the readings and the rules that come.
+fn push_rules(
     alloc: Global,
     edits: &mut Edits,
     nodes: &Nodes,
@@ -83,30 +82,30 @@ fn push_away(
     ensures ok { OnOk result (edits.new
         ≡ edits.old ++ clear_edits (keeps_run nodes.now befores.now) nodes.now
         ++ reading_edits nodes.now fresh.now.readings fresh.now.gone
-        ++ less_edits (length rules.now) 0 nodes.now.rules) }
+        ++ less_edits (length rules.now) 0 nodes.now.rules ++ more_edits [] rules.now) }
     ensures err { IfErr result (λ fault. fault ≡ GraphFault.Memory) }
 {
     push_cleared(alloc, edits, nodes, befores)?;
     push_unread(edits, nodes, fresh.gone.as_slice())?;
     push_fresh(edits, fresh.readings.as_slice())?;
-    push_less(alloc, edits, nodes.rules(), rules.len())
+    push_less(alloc, edits, nodes.rules(), rules.len())?;
+    push_more(alloc, edits, rules)
 }
 
-/// What is there now: rules, their records, owned paths and flags.
+/// Records of runs, owned paths and flags, save records and paths that stand already.
 fn push_now(
-    alloc: Global,
     edits: &mut Edits,
-    rules: &[Rule],
+    nodes: &Nodes,
+    befores: &[Option<u32>],
     runs: &[(u32, RunRecord)],
     owned: &ByPath<Owned>,
     flags: &[u32],
 ) -> Result<(), GraphFault>
-    ensures ok { OnOk result (edits.new ≡ edits.old ++ more_edits [] rules.now
-        ++ map run_so runs.now ++ map own_so (finite.entries owned.now) ++ flag_edits flags.now) }
+    ensures ok { OnOk result (PutsAll nodes.now befores.now runs.now owned.now flags.now
+        edits.old edits.new) }
     ensures err { IfErr result (λ fault. fault ≡ GraphFault.Memory) }
 {
-    push_more(alloc, edits, rules)?;
-    push_runs(edits, runs)?;
-    push_owned(edits, owned)?;
+    push_new_runs(edits, befores, runs)?;
+    push_new_owned(edits, nodes, owned)?;
     push_flags(edits, flags)
 }

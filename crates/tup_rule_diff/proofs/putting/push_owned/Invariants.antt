@@ -1,7 +1,0 @@
-use Rattle.std.proofs.Common.{◌≡◌, ◌++◌, map}
-use Rattle.std.specs.Map.Iter.{deref_pair}
-use Rattle.tup_rule_diff.specs.Edits.{own_so}
-use Rattle.tup_rule_diff.proofs.putting.push_owned.Given as goal
-
-abbrev pub invariant-loop-path : goal.invariant-loop-path
-invariant-loop-path l = l.edits ≡ l.fn.edits ++ map own_so (map deref_pair l.yielded)
