@@ -5,7 +5,7 @@ ghost use Rattle.tup_closure.specs.Steps.{HasStepped, HasSteppedAtMost};
 ghost use Rattle.tup_scan_diff.specs.Edits.{AreScanEdits, BeginsScan};
 
 use crate::present::Present;
-use crate::stamps::sees_more_otherwise;
+use crate::stamps::{asks_of_others, seen_otherwise};
 use std::alloc::Global;
 use std::sync::ledger::Ledger;
 use tup_closure::Steps;
@@ -16,13 +16,20 @@ use tup_scan::Seen;
 /// So many files are asked about by passes over the records.
 const FEW: usize = 8;
 
-/// Whether `note_scan` asks again and again who uses a path: more than a few files are seen otherwise, or more than a few rules
-/// are flagged or may have been touched before. Then the maps of the graph had better be there.
+/// A walk from more rules than so many makes maps of its own where there are none.
+const MANY: usize = 16;
+
+/// Whether `note_scan` asks again and again who uses a path: more than a few files are seen otherwise, or many records ask those, or
+/// more than a few rules are flagged or may have been touched before. Then the maps of the graph had better be there: once for this
+/// walk, the one of the plan, and what the runs change behind it.
 pub fn asks_for_users(graph: &Indexed, seen: &Seen) -> bool {
-    if graph.suspects().len() > FEW || flags_more(graph.nodes(), FEW) {
+    let nodes = graph.nodes();
+    if graph.suspects().len() > FEW || flags_more(nodes, FEW) {
         return true;
     }
-    sees_more_otherwise(graph.nodes(), seen.files.as_slice(), FEW)
+    let files = seen.files.as_slice();
+    let others = seen_otherwise(nodes, files);
+    others > FEW || others > 0 && asks_of_others(nodes, files) > MANY
 }
 
 /// Whether more than so many rules are flagged.

@@ -75,20 +75,48 @@ fn edited(
     }
 }
 
-/// Whether more than so many files are seen otherwise than in these files, or about so many are lost. A file that stands at its
-/// place among those that were seen takes no look-up.
-pub(crate) fn sees_more_otherwise(nodes: &Nodes, files: &[(Path, Stamp)], few: usize) -> bool {
+/// How many files are seen otherwise than in these files, and how many are lost. A file that stands at its place among those that
+/// were seen takes no look-up.
+pub(crate) fn seen_otherwise(nodes: &Nodes, files: &[(Path, Stamp)]) -> usize {
     let mut left = nodes.files();
     let mut others: usize = 0;
     for (path, stamp) in files {
-        if seen_there(left.next(), path) != Some(*stamp) && nodes.seen(path) != Some(*stamp) {
+        if is_other(nodes, left.next(), path, *stamp) {
             others = others.saturating_add(1);
         }
     }
     for _ in left {
         others = others.saturating_add(1);
     }
-    others > few
+    others
+}
+
+/// How many records ask a file that is seen otherwise in these files, which takes a pass over the records for each such file.
+pub(crate) fn asks_of_others(nodes: &Nodes, files: &[(Path, Stamp)]) -> usize {
+    let mut left = nodes.files();
+    let mut asks: usize = 0;
+    for (path, stamp) in files {
+        if is_other(nodes, left.next(), path, *stamp) {
+            asks = asks.saturating_add(asks_of(nodes, path));
+        }
+    }
+    asks
+}
+
+/// Whether a file was seen otherwise, or not at all. `there` is what was seen at its place.
+fn is_other(nodes: &Nodes, there: Option<(&Path, &Stamp)>, path: &Path, stamp: Stamp) -> bool {
+    seen_there(there, path) != Some(stamp) && nodes.seen(path) != Some(stamp)
+}
+
+/// How many records ask a path.
+fn asks_of(nodes: &Nodes, path: &Path) -> usize {
+    let mut asks: usize = 0;
+    for (_, run) in nodes.runs() {
+        if run.asks.as_slice().iter().any(|ask| ask.0 == *path) {
+            asks = asks.saturating_add(1);
+        }
+    }
+    asks
 }
 
 /// The stamp of a file that was seen, if it is the one at this path.
