@@ -8,4 +8,3 @@ pub mod Asked
 pub mod Walking
 pub mod Stepping
 pub mod Stored
-pub mod Copied

@@ -1,6 +1,6 @@
 //! What is to be run.
-use tup_path::Items;
-use tup_rule::Rules;
+use tup_path::{Items, Shared};
+use tup_rule::Rule;
 
 /// Numbers of rules.
 pub type Numbers = Items<u32>;
@@ -8,7 +8,7 @@ pub type Numbers = Items<u32>;
 /// The rules of a project, and which of them an update has to run.
 #[derive(Drop)]
 pub struct Plan {
-    pub rules: Rules,
+    pub rules: Shared<Rule>,
     /// The places of the rules to be run, ascending.
     pub reach: Numbers,
     /// Whether the others go on where one ends badly.

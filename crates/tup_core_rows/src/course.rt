@@ -5,7 +5,7 @@ use crate::opening::reach_at;
 use crate::orders::obey;
 use std::alloc::Global;
 use tup_core::{Plan, Stamps};
-use tup_path::Items;
+use tup_path::{Items, Shared};
 use tup_rows::{Answers, RowFault, Words};
 use tup_rule::{Rule, Rules};
 use tup_stamp::stamp_of;
@@ -68,7 +68,7 @@ impl Courses {
     fn opened(&self, alloc: Global, said: &Words) -> Result<Desk, RowFault> {
         let keep_going = said.word_at(1) == b"keep".as_slice();
         let plan = Plan {
-            rules: self.rules.clone()?,
+            rules: Shared::new(self.rules.clone()?)?,
             reach: reach_at(alloc, said, 0),
             keep_going,
         };

@@ -7,7 +7,7 @@ use crate::machine::Machine;
 use std::alloc::{AllocError, Global};
 use tup_core::{Numbers, Plan, Stamps};
 use tup_given::Project;
-use tup_path::{Files, Items};
+use tup_path::{Files, Items, Shared};
 use tup_rows::{RowFault, Words};
 use tup_stamp::stamp_of;
 
@@ -23,7 +23,7 @@ pub(crate) fn opening(
 {
     let stamps = stamps_of(alloc, &project.sources)?;
     let plan = Plan {
-        rules: project.rules.clone()?,
+        rules: Shared::new(project.rules.clone()?)?,
         reach,
         keep_going,
     };

@@ -1,3 +1,4 @@
+pub mod Copied
 pub mod Maps
 pub mod Marks
 pub mod Slots

@@ -13,3 +13,4 @@ pub mod Swap
 pub mod Reach
 pub mod Owners
 pub mod Late
+pub mod RuleList

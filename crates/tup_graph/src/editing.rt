@@ -5,7 +5,7 @@ ghost use Rattle.tup_graph.specs.Edits.{edited, edited_by, with_first, without};
 use crate::edit::{Edit, Edits};
 use crate::fault::GraphFault;
 use crate::nodes::Nodes;
-use std::alloc::Global;
+use std::alloc::{AllocError, Global};
 use std::mem;
 use tup_path::Items;
 use tup_record::Record;
@@ -29,41 +29,39 @@ impl Nodes {
     {
         match edit {
             Edit::Put(found) => self.put(found),
-            Edit::Remove(found) => {
-                self.leave_out(alloc, &found);
-                Ok(())
-            }
+            Edit::Remove(found) => Ok(self.leave_out(alloc, &found)?),
         }
     }
 
-    /// Takes away what stands under the key of a record, and with a rule those behind it.
-    fn leave_out(&mut self, alloc: Global, gone: &Record)
-        ensures { self.new ≡ without self.old gone.now }
+    /// Takes away what stands under the key of a record, and with a rule those behind it. After a refusal the graph is of no use.
+    fn leave_out(&mut self, alloc: Global, gone: &Record) -> Result<(), AllocError>
+        ensures { OnOk result (self.new ≡ without self.old gone.now) }
     {
         match gone {
             Record::Seen { path, .. } => self.seen.remove(path),
             Record::Reading { dir, .. } => self.readings.remove(dir),
-            Record::Rule { number, .. } => self.cut_rules(alloc, *number as usize),
+            Record::Rule { number, .. } => self.cut_rules(alloc, *number as usize)?,
             Record::Run { number, .. } => self.runs.remove(number),
             Record::Owned { path, .. } => self.owned.remove(path),
             Record::Create { dir } => self.created.remove(dir),
             Record::Modify { number } => self.flags.remove(number),
         }
+        Ok(())
     }
 
-    /// Leaves so many of the first rules.
-    fn cut_rules(&mut self, alloc: Global, count: usize)
-        ensures { self.new ≡ with_first self.old count }
+    /// Leaves so many of the first rules. After a refusal the graph is of no use.
+    fn cut_rules(&mut self, alloc: Global, count: usize) -> Result<(), AllocError>
+        ensures { OnOk result (self.new ≡ with_first self.old count) }
     {
-        let rules = mem::replace(&mut self.rules, Items::new(alloc));
-        self.rules = first(rules, count);
+        self.rules.cut(count)?;
         let places = mem::replace(&mut self.places, Items::new(alloc));
         self.places = first(places, count);
+        Ok(())
     }
 }
 
 /// So many of the first of some values.
-fn first<T: Drop>(items: Items<T>, count: usize) -> Items<T>
+pub(crate) fn first<T: Drop>(items: Items<T>, count: usize) -> Items<T>
     ensures { result ≡ take count items }
 {
     let mut items = items.into_vec();

@@ -21,6 +21,7 @@ mod nodes;
 mod opening;
 mod owned;
 mod owners;
+mod rule_list;
 mod taking;
 
 pub use by_number::ByNumber;

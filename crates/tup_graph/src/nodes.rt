@@ -1,16 +1,17 @@
 //! The nodes of the graph in memory, and what they are asked.
-ghost use Rattle.std.specs.Prelude.{◌≡◌, ◌++◌, ◌∷◌, [], OnOk, OnErr};
+ghost use Rattle.std.specs.Prelude.{◌≡◌, ◌++◌, ◌∷◌, [], IfOk, OnOk, OnErr};
 ghost use Rattle.std.specs.Option.{option_copied};
 ghost use Rattle.std.specs.FinMap as finite;
 ghost use Rattle.tup_graph.specs.Graph.{empty_graph, is_rule, is_flagged, is_created, source};
 
 use crate::by_number::ByNumber;
 use crate::owned::Owned;
-use std::alloc::Global;
+use crate::rule_list::RuleList;
+use std::alloc::{AllocError, Global};
 use std::collections::btree_map::Iter;
-use tup_path::{ByPath, Items, Path};
+use tup_path::{ByPath, Items, Path, Shared};
 use tup_record::RunRecord;
-use tup_rule::{Reading, Rule, Rules};
+use tup_rule::{Reading, Rule};
 use tup_stamp::Stamp;
 
 /// What the store keeps of a project. Contracts see a map for each kind of node, and the list of rules.
@@ -18,7 +19,7 @@ use tup_stamp::Stamp;
 pub struct Nodes {
     pub(crate) seen: ByPath<Stamp>,
     pub(crate) readings: ByPath<Reading>,
-    pub(crate) rules: Rules,
+    pub(crate) rules: RuleList,
     pub(crate) places: Items<u32>,
     pub(crate) runs: ByNumber<RunRecord>,
     pub(crate) owned: ByPath<Owned>,
@@ -34,7 +35,7 @@ impl Nodes {
         Nodes {
             seen: ByPath::new(alloc),
             readings: ByPath::new(alloc),
-            rules: Items::new(alloc),
+            rules: RuleList::new(alloc),
             places: Items::new(alloc),
             runs: ByNumber::new(alloc),
             owned: ByPath::new(alloc),
@@ -48,6 +49,21 @@ impl Nodes {
         ensures { result.now ≡ self.now.rules }
     {
         self.rules.as_slice()
+    }
+
+    /// From now on plans share the rules: `shared_rules` copies none, until the next change of rules. After a refusal the graph
+    /// is of no use.
+    pub fn share_rules(&mut self) -> Result<(), AllocError>
+        ensures { OnOk result (self.new ≡ self.old) }
+    {
+        self.rules.share()
+    }
+
+    /// The rules for a plan to keep. They stay as they are where the graph changes, and are copied where they aren't shared.
+    pub fn shared_rules(&self) -> Result<Shared<Rule>, AllocError>
+        ensures { IfOk result (λ rules. rules ≡ self.now.rules) }
+    {
+        self.rules.shared()
     }
 
     /// Who makes an owned path, and what is known of the file there; `None` where the path isn't owned.
@@ -97,6 +113,13 @@ impl Nodes {
         ensures { result ≡ finite.entries self.now.seen }
     {
         self.seen.iter()
+    }
+
+    /// All files that were seen, with their stamps, as a map.
+    pub fn seen_files(&self) -> &ByPath<Stamp>
+        ensures { result.now ≡ self.now.seen }
+    {
+        &self.seen
     }
 
     /// All owned paths, in their order.

@@ -9,13 +9,12 @@ ghost use Rattle.tup_closure.specs.Steps.{HasStepped, HasSteppedAtMost};
 ghost use Rattle.tup_partial.specs.Plan.{AreFlagsOfRules, IsFlagged, IsToRun};
 
 use crate::fault::PartialFault;
-use std::alloc::{AllocError, Global};
+use std::alloc::Global;
 use std::sync::ledger::Ledger;
 use tup_closure::{Steps, above, rule_count};
 use tup_core::{Numbers, Plan};
 use tup_graph::Nodes;
 use tup_readers::Indexed;
-use tup_rule::{Rule, Rules};
 
 /// The plan of an update: the rules of the graph in their order, and of these the flagged ones and all above them are to be
 /// run. It takes the steps of `above` from the flagged rules; after a refusal it has taken no more.
@@ -42,7 +41,7 @@ pub fn plan_of<L: Ledger>(
     ensures memory { IfErr result (λ fault. fault ≡ PartialFault.Memory) }
 {
     let reach = reach(alloc, graph, steps)?;
-    let rules = copies(alloc, graph.nodes().rules())?;
+    let rules = graph.nodes().shared_rules()?;
     Ok(Plan {
         rules,
         reach,
@@ -86,15 +85,4 @@ fn flagged(alloc: Global, graph: &Nodes) -> Result<Numbers, PartialFault>
         }
     }
     Ok(numbers)
-}
-
-/// The same rules again.
-fn copies(alloc: Global, rules: &[Rule]) -> Result<Rules, AllocError>
-    ensures { IfOk result (λ copies. copies ≡ rules.now) }
-{
-    let mut copies = Rules::with_room(alloc, rules.len())?;
-    for rule in rules {
-        copies.push(rule.clone()?)?;
-    }
-    Ok(copies)
 }

@@ -148,7 +148,8 @@ impl Indexed {
         }
     }
 
-    /// Makes edits, one after another. After a refusal it is the graph of a new store.
+    /// Makes edits, one after another, and shares the rules after the last one. So rules are copied once at most, for the first
+    /// edit of a rule. After a refusal it is the graph of a new store.
     pub fn edit_all(&mut self, alloc: Global, edits: Edits) -> Result<(), GraphFault>
         ensures ok { OnOk result (self.new ≡ edited_by self.old edits) }
         ensures err { OnErr result (self.new ≡ empty_graph) }
@@ -159,7 +160,7 @@ impl Indexed {
         Ok(())
     }
 
-    /// What edits leave, one after another.
+    /// What edits leave, one after another, with rules that plans share.
     fn edited_by(self, alloc: Global, edits: Edits) -> Result<Indexed, GraphFault>
         ensures ok { IfOk result (λ after. after ≡ edited_by self edits) }
         ensures err { IfErr result (λ fault. fault ≡ GraphFault.Memory) }
@@ -168,7 +169,27 @@ impl Indexed {
         for edit in edits.into_vec() {
             after = after.edited(alloc, edit)?;
         }
-        Ok(after)
+        after.sharing()
+    }
+
+    /// The same graph, whose rules plans share from now on.
+    fn sharing(self) -> Result<Indexed, GraphFault>
+        ensures ok { IfOk result (λ after. after ≡ self) }
+        ensures err { IfErr result (λ fault. fault ≡ GraphFault.Memory) }
+    {
+        let Indexed {
+            mut nodes,
+            users,
+            suspects,
+            passes,
+        } = self;
+        nodes.share_rules()?;
+        Ok(Indexed {
+            nodes,
+            users,
+            suspects,
+            passes,
+        })
     }
 
     /// What an edit leaves. It makes the maps where few passes over the records were not enough.

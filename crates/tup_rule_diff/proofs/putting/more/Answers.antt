@@ -1,5 +1,5 @@
 use Rattle.std.proofs.Common.{Ok, inr}
-use Rattle.tup_closure.proofs.Copied.{same_rule}
+use Rattle.tup_graph.proofs.Copied.{same_rule}
 use Rattle.tup_rule_diff.specs.Edits.{rule_more}
 use Rattle.tup_rule_diff.proofs.putting.more.Goals as goal
 
