@@ -31,6 +31,13 @@ module _ {Y : Type 0} {First Second Both Old Mid New : Y → Type 0} (both : (y 
     λ kept. (two y).1 ((one y).1 (kept.0, λ first. kept.1 ((both y).1 (inl first))), λ second. kept.1 ((both y).1 (inr second))),
   )
 
+-- the same, said otherwise
+pub added_so : {Y : Type 0} {First Second Old New : Y → Type 0} → ((y : Y) → First y ↔ Second y) → Adds First Old New → Adds Second Old New
+added_so same adds y = (
+  λ now. elim ((adds y).0 now) [ inl was ↦ inl was | inr added ↦ inr ((same y).0 added) ],
+  λ e. elim e [ inl was ↦ (adds y).1 (inl was) | inr added ↦ (adds y).1 (inr ((same y).1 added)) ],
+)
+
 -- ---- lists with one more
 
 module _ {E A K : Type 0} (about : E → A) (key : K) where

@@ -12,6 +12,7 @@ ghost use Rattle.tup_path.specs.Order.{by_names};
 
 use crate::askers::Askers;
 use crate::maps;
+use crate::passes::{Way, find_users};
 use crate::suspects::Suspects;
 use crate::users::Users;
 use std::alloc::{AllocError, Global};
@@ -119,8 +120,10 @@ impl Indexed {
         ensures ascending { IfOk result (λ numbers. IsStrictlySortedBy nat_cmp numbers.items) }
         ensures memory { IfErr result (λ fault. fault ≡ GraphFault.Memory) }
     {
-        let numbers = maps::readers_of(alloc, &self.nodes, &self.users, path)?;
-        Ok(numbers)
+        match &self.users {
+            Some(users) => Ok(users.readers_of(alloc, path)?),
+            None => Ok(find_users(alloc, &self.nodes, path, Way::Asks)?),
+        }
     }
 
     /// The rules whose records wrote a path, in ascending order. Where the maps aren't made it goes through all records.
@@ -130,8 +133,10 @@ impl Indexed {
         ensures ascending { IfOk result (λ numbers. IsStrictlySortedBy nat_cmp numbers.items) }
         ensures memory { IfErr result (λ fault. fault ≡ GraphFault.Memory) }
     {
-        let numbers = maps::writers_of(alloc, &self.nodes, &self.users, path)?;
-        Ok(numbers)
+        match &self.users {
+            Some(users) => Ok(users.writers_of(alloc, path)?),
+            None => Ok(find_users(alloc, &self.nodes, path, Way::Writes)?),
+        }
     }
 
     /// The folders whose readings asked a question, in the order of paths. It goes through all readings.
@@ -219,10 +224,10 @@ impl Indexed {
     }
 }
 
-/// The passes after an edit, which takes one for those who read a file and one for those who wrote it.
+/// The passes after an edit, which takes one for the users of a file.
 fn passes_after(passes: u32, edit: &Edit) -> u32 {
     if maps::asks_for_users(edit) {
-        return passes.saturating_add(2);
+        return passes.saturating_add(1);
     }
     passes
 }

@@ -1,53 +1,13 @@
 //! Maps of users that may not be made.
-ghost use Rattle.std.specs.Prelude.{◌≡◌, ◌↔◌, ℕ, Contains, IfOk, IfSome};
-ghost use Rattle.std.specs.List.Sorted.{IsStrictlySortedBy};
-ghost use Rattle.std.specs.Ordering.{nat_cmp};
-ghost use Rattle.tup_graph.specs.Above.{HasAsked};
+ghost use Rattle.std.specs.Prelude.{IfOk, IfSome};
 ghost use Rattle.tup_graph.specs.Edits.{edited};
-ghost use Rattle.tup_readers.specs.Index.{AreUsers, HasWritten};
+ghost use Rattle.tup_readers.specs.Index.{AreUsers};
 
-use crate::passes::{FEW, find_readers, find_writers};
+use crate::passes::FEW;
 use crate::users::Users;
 use std::alloc::{AllocError, Global};
 use tup_graph::{Edit, Nodes};
-use tup_path::Path;
 use tup_record::Record;
-
-/// The rules whose records ask a path, in ascending order. Where the maps aren't made it goes through all records.
-pub(crate) fn readers_of(
-    alloc: Global,
-    nodes: &Nodes,
-    users: &Option<Users>,
-    path: &Path,
-) -> Result<Vec<u32>, AllocError>
-    requires { IfSome users.now (AreUsers nodes.now.runs) }
-    ensures readers { IfOk result (λ numbers. (number : ℕ)
-        → Contains numbers.items number ↔ HasAsked nodes.now number path.now) }
-    ensures ascending { IfOk result (λ numbers. IsStrictlySortedBy nat_cmp numbers.items) }
-{
-    match users {
-        Some(users) => users.readers_of(alloc, path),
-        None => find_readers(alloc, nodes, path),
-    }
-}
-
-/// The rules whose records wrote a path, in ascending order. Where the maps aren't made it goes through all records.
-pub(crate) fn writers_of(
-    alloc: Global,
-    nodes: &Nodes,
-    users: &Option<Users>,
-    path: &Path,
-) -> Result<Vec<u32>, AllocError>
-    requires { IfSome users.now (AreUsers nodes.now.runs) }
-    ensures writers { IfOk result (λ numbers. (number : ℕ)
-        → Contains numbers.items number ↔ HasWritten nodes.now number path.now) }
-    ensures ascending { IfOk result (λ numbers. IsStrictlySortedBy nat_cmp numbers.items) }
-{
-    match users {
-        Some(users) => users.writers_of(alloc, path),
-        None => find_writers(alloc, nodes, path),
-    }
-}
 
 /// The maps for an edit, after so many passes over the records. They are made where one pass more would be needed, and the
 /// passes aren't few.

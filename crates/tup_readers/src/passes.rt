@@ -2,65 +2,78 @@
 ghost use Rattle.std.specs.Prelude.{◌≡◌, ◌↔◌, ◌++◌, ℕ, Contains, IfOk, OnOk};
 ghost use Rattle.std.specs.List.Sorted.{IsStrictlySortedBy};
 ghost use Rattle.std.specs.Ordering.{nat_cmp};
-ghost use Rattle.tup_graph.specs.Above.{HasAsked};
-ghost use Rattle.tup_readers.specs.Index.{HasWritten};
-ghost use Rattle.tup_readers.specs.Passes.{number_if, tells};
+ghost use Rattle.tup_readers.specs.Passes.{IsUserBy, number_if, tells, tells_either, uses_by};
 
 use std::alloc::{AllocError, Global};
 use tup_graph::Nodes;
 use tup_path::Path;
+use tup_record::RunRecord;
 
 /// So many passes are made before the maps of users are: a pass takes a sixtieth of what they take.
 pub(crate) const FEW: u32 = 16;
 
-/// The rules whose records ask a path, in ascending order, in one pass over the records of runs.
-pub(crate) fn find_readers(
+/// How a record uses a path.
+#[derive(Clone, Copy)]
+pub(crate) enum Way {
+    /// It asks it.
+    Asks,
+    /// It wrote it.
+    Writes,
+    /// It asks it, or wrote it.
+    Either,
+}
+
+/// The rules whose records use a path in a way, in ascending order, in one pass over the records of runs.
+pub(crate) fn find_users(
     alloc: Global,
     nodes: &Nodes,
     path: &Path,
+    way: Way,
 ) -> Result<Vec<u32>, AllocError>
-    ensures readers { IfOk result (λ numbers. (number : ℕ)
-        → Contains numbers.items number ↔ HasAsked nodes.now number path.now) }
+    ensures users { IfOk result (λ numbers. (number : ℕ)
+        → Contains numbers.items number ↔ IsUserBy way nodes.now path.now number) }
     ensures ascending { IfOk result (λ numbers. IsStrictlySortedBy nat_cmp numbers.items) }
 {
     let mut numbers = Vec::new(alloc);
     for (number, run) in nodes.runs() {
-        push_if_told(&mut numbers, *number, run.asks.as_slice(), path)?;
+        push_if_used(&mut numbers, *number, run, path, way)?;
     }
     Ok(numbers)
 }
 
-/// The rules whose records wrote a path, in ascending order, in one pass over the records of runs.
-pub(crate) fn find_writers(
-    alloc: Global,
-    nodes: &Nodes,
-    path: &Path,
-) -> Result<Vec<u32>, AllocError>
-    ensures writers { IfOk result (λ numbers. (number : ℕ)
-        → Contains numbers.items number ↔ HasWritten nodes.now number path.now) }
-    ensures ascending { IfOk result (λ numbers. IsStrictlySortedBy nat_cmp numbers.items) }
-{
-    let mut numbers = Vec::new(alloc);
-    for (number, run) in nodes.runs() {
-        push_if_told(&mut numbers, *number, run.writes.as_slice(), path)?;
-    }
-    Ok(numbers)
-}
-
-/// Adds a rule, if its record tells of a path.
-fn push_if_told<T>(
+/// Adds a rule, if its record uses a path in a way.
+fn push_if_used(
     numbers: &mut Vec<u32>,
     number: u32,
-    list: &[(Path, T)],
+    run: &RunRecord,
     path: &Path,
+    way: Way,
 ) -> Result<(), AllocError>
     ensures { OnOk result (numbers.new.items
-        ≡ numbers.old.items ++ number_if (tells path.now list.now) number) }
+        ≡ numbers.old.items ++ number_if (uses_by way path.now run.now) number) }
 {
-    if is_told(list, path) {
+    if is_used(run, path, way) {
         numbers.push(number)?;
     }
     Ok(())
+}
+
+/// Whether a record uses a path in a way.
+fn is_used(run: &RunRecord, path: &Path, way: Way) -> bool
+    ensures { result ≡ uses_by way path.now run.now }
+{
+    match way {
+        Way::Asks => is_told(run.asks.as_slice(), path),
+        Way::Writes => is_told(run.writes.as_slice(), path),
+        Way::Either => is_told_either(run, path),
+    }
+}
+
+/// Whether a record asks a path, or wrote it.
+fn is_told_either(run: &RunRecord, path: &Path) -> bool
+    ensures { result ≡ tells_either path.now run.now }
+{
+    is_told(run.asks.as_slice(), path) || is_told(run.writes.as_slice(), path)
 }
 
 /// Whether a path is among those that a record tells of.

@@ -3,12 +3,13 @@ ghost use Rattle.std.specs.Prelude.{◌≡◌, Contains, IfOk, IfSome, OnOk};
 ghost use Rattle.std.specs.Bool.{Decides};
 ghost use Rattle.std.specs.FinMap as finite;
 ghost use Rattle.tup_graph.specs.Edits.{edited, without};
+ghost use Rattle.tup_graph.specs.Graph.{GraphState};
 ghost use Rattle.tup_graph.specs.Opening.{put as put_of};
 ghost use Rattle.tup_readers.specs.Changes.{Adds, Takes};
 ghost use Rattle.tup_readers.specs.Index.{AreUsers, IsUserIn};
 ghost use Rattle.tup_readers.specs.Suspects.{AreSuspects, AskedOther, IsAmong, TellsOther, WroteOther};
 
-use crate::maps;
+use crate::passes::{Way, find_users};
 use crate::seen::SeenFiles;
 use crate::users::Users;
 use std::alloc::{AllocError, Global};
@@ -153,7 +154,7 @@ impl Suspects {
         Ok(())
     }
 
-    /// Adds the rules whose records ask or wrote a path.
+    /// Adds the rules whose records ask or wrote a path. Where the maps aren't made it goes through all records.
     fn add_users(
         &mut self,
         alloc: Global,
@@ -165,10 +166,31 @@ impl Suspects {
         ensures { OnOk result (Adds (IsUserIn nodes.now path.now)
             (IsAmong self.old.numbers) (IsAmong self.new.numbers)) }
     {
-        let readers = maps::readers_of(alloc, nodes, users, path)?;
+        match users {
+            Some(users) => self.add_known(alloc, users, path),
+            None => self.add_found(alloc, nodes, path),
+        }
+    }
+
+    /// Adds the rules whose records ask or wrote a path, by the maps.
+    fn add_known(&mut self, alloc: Global, users: &Users, path: &Path) -> Result<(), AllocError>
+        ensures { (g : GraphState) → AreUsers g.runs users.now
+            → OnOk result (Adds (IsUserIn g path.now)
+            (IsAmong self.old.numbers) (IsAmong self.new.numbers)) }
+    {
+        let readers = users.readers_of(alloc, path)?;
         self.add_all(&readers)?;
-        let writers = maps::writers_of(alloc, nodes, users, path)?;
+        let writers = users.writers_of(alloc, path)?;
         self.add_all(&writers)
+    }
+
+    /// Adds the rules whose records ask or wrote a path, in one pass over the records.
+    fn add_found(&mut self, alloc: Global, nodes: &Nodes, path: &Path) -> Result<(), AllocError>
+        ensures { OnOk result (Adds (IsUserIn nodes.now path.now)
+            (IsAmong self.old.numbers) (IsAmong self.new.numbers)) }
+    {
+        let numbers = find_users(alloc, nodes, path, Way::Either)?;
+        self.add_all(&numbers)
     }
 
     /// Adds some rules.

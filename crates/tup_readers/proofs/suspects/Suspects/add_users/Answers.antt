@@ -1,17 +1,8 @@
-use Rattle.std.proofs.Common.{◌↔◌, List, ℕ, sym, subst}
-use Rattle.std.specs.Prelude.{Contains}
-use Rattle.std.proofs.lemmas.Result.{on_ok_weaker}
-use Rattle.tup_graph.specs.Above.{HasAsked}
-use Rattle.tup_readers.specs.Index.{HasWritten}
-use Rattle.tup_readers.proofs.Suspecting.{users_added}
+use Rattle.std.proofs.Common.{Option, subst}
+use Rattle.std.specs.Prelude.{IfSome}
+use Rattle.tup_readers.specs.Index.{AreUsers}
+use Rattle.tup_readers.specs.declared.users.Users.{Users}
 use Rattle.tup_readers.proofs.suspects.Suspects.add_users.Goals as goal
 
-pub returns : goal.returns
-returns c =
-    let g = c.args.nodes.now in
-    let path = c.args.path.now in
-    let readers : (n : ℕ) → Contains c.deref.result.now n ↔ HasAsked g n path =
-    subst (λ (l : List ℕ). (n : ℕ) → Contains l n ↔ HasAsked g n path) (sym c.deref.ensures.value) c.in_ok-readers.ensures.readers in
-    let writers : (n : ℕ) → Contains c.deref-2.result.now n ↔ HasWritten g n path =
-    subst (λ (l : List ℕ). (n : ℕ) → Contains l n ↔ HasWritten g n path) (sym c.deref-2.ensures.value) c.in_ok-writers.ensures.writers in
-    on_ok_weaker c.add_all-2.result (users_added g path c.deref.result.now c.deref-2.result.now readers writers c.in_ok-add_all.ensures) c.add_all-2.ensures
+pub returns-in-Some : goal.returns-in-Some
+returns-in-Some c = c.add_known.ensures c.args.nodes.now (subst (λ (users : Option Users). IfSome users (AreUsers c.args.nodes.now.runs)) c.in-Some.is c.requires)
