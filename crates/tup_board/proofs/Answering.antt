@@ -26,7 +26,7 @@ use Rattle.tup_core.specs.Step.{CanAsk, IsEnabled}
 use Rattle.tup_schedule.specs.Course.{CourseState, GoesOn, RunsRule, WasDenied, now, with_events}
 use Rattle.tup_rule_outputs.specs.Fault.{CountsFaults}
 use Rattle.tup_rule_outputs.specs.Ground.{NamesLength, OnlyLarge, ReadsSite}
-use Rattle.tup_rule_outputs.specs.Lost.{Lost}
+use Rattle.tup_rule_outputs.specs.Lost.{HasNodes, Lost}
 use Rattle.tup_rule_outputs.specs.declared.ground.Ground.{Ground}
 use Rattle.tup_rule_outputs.specs.declared.fault.BoardFault.{BoardFault}
 use Rattle.tup_rule_outputs.specs.declared.fault.BoardFault.TheVariants as fault_by
@@ -34,11 +34,13 @@ use Rattle.tup_board.specs.declared.answers.Asked.{Asked}
 use Rattle.tup_board.specs.Board.{BoardState, course_of, plan_of, state, with_history}
 use Rattle.tup_board.specs.Calls.{Asks, AsksFor, AsksForOwn}
 use Rattle.tup_board.specs.Cause.{stops_by}
+use Rattle.tup_board.specs.Seen.{HasFiles}
 use Rattle.tup_board.specs.Sound.{IsSound, IsTrueFault}
 use Rattle.tup_board.proofs.Asking.{failed_asks, read_asks, same_rule_at, same_running}
 use Rattle.tup_board.proofs.Kept.{KeepsBoard, board_at, course_is, to_course, sound_seen, kept_more, refused_kept, site_true, large_true, full_true}
 use Rattle.tup_board.specs.Seat.{is_granted}
 use Rattle.tup_board.proofs.Seated.{runs_at}
+use Rattle.tup_board.proofs.Stamps.{end_leaves}
 use Rattle.tup_board.proofs.WasRead.{sound_read}
 use Rattle.tup_board.proofs.Visiting.{counts_as, large_as, length_as, visit_true}
 
@@ -96,6 +98,10 @@ module _ {S R : Type 0} (site : Site S) (runner : Runner R) (course : CourseStat
 
   pub files_seen : (path : Names) → (now course).files path ≡ (state given).files path
   files_seen path = ap (λ (c : CourseState). (now c).files path) seen_is
+
+  -- the stamp that the graph has seen at a path is that of the core's files
+  pub stamp_seen : HasFiles lost graph.nodes course → HasNodes lost → (path : Names) (seen : Option Stamp) → seen ≡ finite.get graph.nodes.seen path → seen ≡ (state given).files path
+  stamp_seen has nodes path seen is = is ∙ has.stamps nodes path ∙ files_seen path
 
   -- ---- what a seat runs
   pub running_seen : (seat : ℕ) (running : Running) → (now course).seats seat ≡ Some running → (it : RunsRule (course_of given) seat) → it.running ≡ running
@@ -180,7 +186,7 @@ module _ {S R : Type 0} (site : Site S) (runner : Runner R) (course : CourseStat
   -- ---- a bad end
   pub bad_kept : (seat : ℕ) (verdict : Verdict) (new : CourseState) → new ≡ with_events course (Finish seat verdict [] ∷ []) → IsSound site runner (with_history given (given.history ++ Finish seat verdict [] ∷ [])) → Keeps new
   bad_kept seat verdict new is more =
-      kept_more site runner course first_graph graph first_site s lost given files sound view new (Finish seat verdict []) is
+      kept_more site runner course first_graph graph first_site s lost given files sound view new (Finish seat verdict []) is (end_leaves course.plan (now course) seat verdict)
       (subst (λ (b : BoardState S). IsSound site runner (with_history b (b.history ++ Finish seat verdict [] ∷ []))) (sym view) more)
 
 -- what a site answered that couldn't read a file
@@ -209,6 +215,9 @@ module _ {S R : Type 0} (site : Site S) (runner : Runner R) (course : CourseStat
 
   pub read_seen : after_read ≡ record given { site = read.site }
   read_seen = read_is ∙ ap (λ (b : BoardState S). record b { site = read.site }) view
+
+  pub stamp_after : (path : Names) (seen : Option Stamp) → seen ≡ (state given).files path → seen ≡ (state after_read).files path
+  stamp_after path seen is = is ∙ sym (ap (λ (b : BoardState S). (state b).files path) read_seen)
 
   site_is : given.site ≡ s
   site_is = ap (λ (b : BoardState S). b.site) (sym view)

@@ -14,7 +14,7 @@ module _ {A X : Type 0} (key : A → Names) where
   abbrev pub put_all : (A → X) → finite.FinMap by_names X → List A → finite.FinMap by_names X
   put_all value m items = fold (λ m (item : A). finite.insert m (key item) (value item)) m items
 
-  get_put : (value : A → X) (m : finite.FinMap by_names X) (item : A) (q : Names) → finite.get (finite.insert m (key item) (value item)) q ≡ cond (same_path q (key item)) (Some (value item)) (finite.get m q)
+  pub get_put : (value : A → X) (m : finite.FinMap by_names X) (item : A) (q : Names) → finite.get (finite.insert m (key item) (value item)) q ≡ cond (same_path q (key item)) (Some (value item)) (finite.get m q)
   get_put value m item q =
       finite.get-insert by_names-total m (key item) (value item) q ∙ ap (λ (b : Bool). cond b (Some (value item)) (finite.get m q)) (sym (same_path-by_names q (key item)))
 

@@ -4,6 +4,7 @@ use Rattle.std.specs.Prelude.{IsTrue, IsSome, if◌then◌else◌, length, slice
 use Rattle.std.proofs.lemmas.Bool.{true≢false}
 use Rattle.std.proofs.lemmas.Option.{same_Some, none-some}
 use Rattle.std.specs.FinMap as finite
+use Rattle.tup_path.specs.Name.{Names}
 use Rattle.tup_stamp.specs.declared.Stamp.{Stamp}
 use Rattle.tup_access.specs.declared.verdict.Verdict.{Verdict}
 use Rattle.tup_access.specs.declared.verdict.Verdict.TheVariants.{Good}
@@ -34,6 +35,7 @@ use Rattle.tup_rule_outputs.specs.declared.fault.BoardFault.TheVariants as fault
 use Rattle.tup_board.specs.Board.{BoardState, course_of, plan_of, start, state, with_history}
 use Rattle.tup_board.specs.Calls.{MeansDenied}
 use Rattle.tup_board.specs.Sound.{IsSound, IsTrueFault, IsTrueNow}
+use Rattle.tup_board.proofs.Stamps.{end_leaves}
 use Rattle.tup_board.proofs.Sounds.{IsHonestEvent, IsQuiet, ask_quiet, bad_quiet, cause_on, cause_stays, deny_quiet, sound_claim, sound_more, sound_stop, stop_quiet}
 
 -- the causes for which a caller stops aren't a bad verdict
@@ -132,6 +134,7 @@ module _ {S R : Type 0} (site : Site S) (runner : Runner R) (course : CourseStat
     pub files : c.files ≡ finite.entries first_graph.nodes.seen
     pub plan : c.plan ≡ course.plan
     pub sound : IsSound site runner (board_at c)
+    pub stamps : (path : Names) → (now c).files path ≡ (now course).files path
 
   module _ (given : BoardState S) (files : course.files ≡ finite.entries first_graph.nodes.seen) (sound : IsSound site runner (board_at course)) (view : board_at course ≡ given) where
     -- its course is the one that callers see
@@ -148,11 +151,18 @@ module _ {S R : Type 0} (site : Site S) (runner : Runner R) (course : CourseStat
     to_course P it = subst P (sym course_is) it
 
     pub kept_same : (new : CourseState) → new ≡ course → KeepsBoard new
-    kept_same new is = subst KeepsBoard (sym is) (record { files = files; plan = refl; sound = sound })
+    kept_same new is = subst KeepsBoard (sym is) (record { files = files; plan = refl; sound = sound; stamps = λ path. refl })
 
-    -- one more event
-    pub kept_more : (new : CourseState) (event : CoreEvent) → new ≡ with_events course (event ∷ []) → IsSound site runner (with_history (board_at course) (course.history ++ event ∷ [])) → KeepsBoard new
-    kept_more new event is more = subst KeepsBoard (sym is) (record { files = files; plan = refl; sound = more })
+    -- one more event, which leaves the files
+    pub kept_more : (new : CourseState) (event : CoreEvent) → new ≡ with_events course (event ∷ []) → ((path : Names) → (after course.plan (now course) event).files path ≡ (now course).files path)
+        → IsSound site runner (with_history (board_at course) (course.history ++ event ∷ [])) → KeepsBoard new
+    kept_more new event is same more =
+        subst KeepsBoard (sym is) (record {
+          files = files;
+          plan = refl;
+          sound = more;
+          stamps = λ path. ap (λ (s : State). s.files path) (end_more course.plan (first course) course.history event) ∙ same path;
+        })
 
     -- an event that may happen for callers may happen here
     enabled_here : (event : CoreEvent) → IsEnabled (plan_of given) (state given) event → IsEnabled (plan_of (board_at course)) (state (board_at course)) event
@@ -163,7 +173,7 @@ module _ {S R : Type 0} (site : Site S) (runner : Runner R) (course : CourseStat
         → new ≡ with_events course (Ask seat text answer ∷ []) → KeepsBoard new
     ask_kept seat text answer new enabled is =
         let quiet = ask_quiet (plan_of (board_at course)) (state (board_at course)) seat text answer in
-        kept_more new (Ask seat text answer) is
+        kept_more new (Ask seat text answer) is (λ path. refl)
         (sound_more site runner (board_at course) (Ask seat text answer) quiet sound (enabled_here (Ask seat text answer) enabled) (λ told means. tt)
         (cause_stays site runner (board_at course) (Ask seat text answer) quiet sound refl))
 
@@ -171,7 +181,7 @@ module _ {S R : Type 0} (site : Site S) (runner : Runner R) (course : CourseStat
         → new ≡ with_events course (Deny seat text verdict ∷ []) → KeepsBoard new
     deny_kept seat text verdict new enabled is =
         let quiet = deny_quiet (plan_of (board_at course)) (state (board_at course)) seat text verdict in
-        kept_more new (Deny seat text verdict) is
+        kept_more new (Deny seat text verdict) is (λ path. refl)
         (sound_more site runner (board_at course) (Deny seat text verdict) quiet sound (enabled_here (Deny seat text verdict) enabled) (λ told means. tt)
         (cause_stays site runner (board_at course) (Deny seat text verdict) quiet sound refl))
 
@@ -179,7 +189,7 @@ module _ {S R : Type 0} (site : Site S) (runner : Runner R) (course : CourseStat
     pub refused_kept : (seat : ℕ) (cause : Cause) (new : CourseState) → seat < 16 → (cause ≡ Bad → ⊥)
         → IsTrueNow site runner (with_history (board_at course) (course.history ++ Stop seat cause ∷ [])) cause
         → new ≡ with_events course (Stop seat cause ∷ []) → KeepsBoard new
-    refused_kept seat cause new within other holds is = kept_more new (Stop seat cause) is (sound_stop site runner (board_at course) sound seat cause within other holds)
+    refused_kept seat cause new within other holds is = kept_more new (Stop seat cause) is (λ path. refl) (sound_stop site runner (board_at course) sound seat cause within other holds)
 
     -- a refusal that is true of a board is, as a cause, once it stopped by it
     pub site_true : (seat : ℕ) → IsTrueFault site runner given seat fault_by.Site
@@ -209,7 +219,7 @@ module _ {S R : Type 0} (site : Site S) (runner : Runner R) (course : CourseStat
     -- ---- a claim
     pub claim_kept : (seat : ℕ) (result : Claimed) (new : CourseState) → seat < 16 → (state given).seats seat ≡ None → Claims seat course result new → KeepsBoard new
     claim_kept seat (Gives number) new within free claims =
-        kept_more new (Claim seat number) claims.1
+        kept_more new (Claim seat number) claims.1 (λ path. refl)
         (sound_claim site runner (board_at course) sound seat number within (subst (λ (b : BoardState S). (state b).seats seat ≡ None) (sym view) free)
         (subst (λ (c : CourseState). IsFirstReadyOf c number) here claims.0))
       where
@@ -227,7 +237,7 @@ module _ {S R : Type 0} (site : Site S) (runner : Runner R) (course : CourseStat
     pub stop_kept : (seat : ℕ) (cause : Cause) (new : CourseState) → seat < 16 → (cause ≡ Run) ⊎ (cause ≡ Memory) → Stops seat cause course new → KeepsBoard new
     stop_kept seat cause new within why stops =
         ⊎_elim (λ stopped. kept_same new (stops.none stopped))
-        (λ going. kept_more new (Stop seat cause) (stops.one going) (sound_stop site runner (board_at course) sound seat cause within (other_cause cause why) (holds why)))
+        (λ going. kept_more new (Stop seat cause) (stops.one going) (λ path. refl) (sound_stop site runner (board_at course) sound seat cause within (other_cause cause why) (holds why)))
         (stopped_or_not ((now course).seats seat) (now course).stopped)
       where
         TrueAfter : Cause → Type 0
@@ -248,7 +258,7 @@ module _ {S R : Type 0} (site : Site S) (runner : Runner R) (course : CourseStat
         run_here = subst (λ (c : CourseState). IsRun c.plan (first c) c.history) (sym here) sound.run
 
     pub denied_kept : (seat : ℕ) (new : CourseState) → MeansDenied site runner given seat → EndsDenied seat course new → KeepsBoard new
-    denied_kept seat new means ends = kept_more new (Finish seat ends.was.verdict []) ends.adds more
+    denied_kept seat new means ends = kept_more new (Finish seat ends.was.verdict []) ends.adds (end_leaves course.plan (now course) seat ends.was.verdict) more
       where
         was_here : WasDenied (course_of (board_at course)) seat
         was_here = record {

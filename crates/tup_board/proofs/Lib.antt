@@ -1,12 +1,13 @@
 pub mod Sounds
 pub mod Openings
 pub mod Records
+pub mod Folds
+pub mod Stamps
 pub mod Kept
 pub mod WasRead
 pub mod Seated
 pub mod Asking
 pub mod Ending
-pub mod Folds
 pub mod Coming
 pub mod Visiting
 pub mod Keeping

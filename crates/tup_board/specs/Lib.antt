@@ -1,5 +1,6 @@
 pub mod Board
 pub mod Contents
+pub mod Seen
 pub mod Outputs
 pub mod Ends
 pub mod Come

@@ -25,8 +25,9 @@ impl<S: Site, R: Runner> Board<S, R> {
     ///
     /// A content that was answered before is kept, if there is room. It isn't read again where the core's files have its stamp.
     ///
-    /// `Memory` leaves all as it was. It is answered too where the file isn't that of the core's files, which a site may
-    /// do that doesn't tell its tree. After `Site` and `TooLarge` the seat runs nothing any more, and all is stopped.
+    /// `Memory` leaves all as it was. It is answered too once memory was wanting for an earlier commit, and where the file
+    /// isn't that of the core's files, which a site may do that doesn't tell its tree. After `Site` and `TooLarge` the seat
+    /// runs nothing any more, and all is stopped.
     pub fn ask(
         &mut self,
         alloc: Global,

@@ -15,16 +15,16 @@ use std::alloc::{AllocError, Global};
 use std::marker::{Model, PhantomData};
 use std::snapshot::Snapshot;
 use tup_access::Verdict;
-use tup_core::{Cause, CoreEvent, Plan, Running, Stamps};
+use tup_core::{Cause, CoreEvent, Plan, Running};
 use tup_graph::Nodes;
-use tup_path::Items;
 use tup_rule_outputs::{BoardFault, Ground};
 use tup_runner::Runner;
 use tup_schedule::{Claimed, Course};
 use tup_site::Site;
 use tup_stored_graph::Graph;
 
-/// An update under way: a site with its graph, and all that happened. It keeps contents that were read.
+/// An update under way: a site with its graph, and all that happened. It keeps contents that were read, and no list of
+/// files: the graph has seen the core's files.
 #[derive(Drop)]
 pub struct Board<S: Site, R: Runner> {
     pub(crate) ground: Ground<S>,
@@ -40,6 +40,7 @@ impl<S: Site, R: Runner> Model for Board<S, R> {
     ghost use Rattle.std.specs.FinMap as finite;
     ghost use Rattle.tup_board.specs.Board.{BoardState, board_code};
     ghost use Rattle.tup_board.specs.Contents.{AreKept};
+    ghost use Rattle.tup_board.specs.Seen.{HasFiles};
     ghost use Rattle.tup_board.specs.Sound.{IsSound};
 
     ghost Value = { BoardState S };
@@ -70,7 +71,8 @@ impl<S: Site, R: Runner> Model for Board<S, R> {
           graph = b.ground.graph;
           lost = b.ground.lost;
         })
-        × AreKept S.Site b.ground.site b.contents };
+        × AreKept S.Site b.ground.site b.contents
+        × HasFiles b.ground.lost b.ground.graph.nodes b.course };
 }
 
 impl<S: Site, R: Runner> Board<S, R> {
@@ -221,17 +223,5 @@ fn opened(alloc: Global, nodes: &Nodes, plan: &Plan) -> Result<Course, AllocErro
     ensures { IfOk result (λ course. course
         ≡ record { plan = plan.now; files = finite.entries nodes.now.seen; history = [] }) }
 {
-    let files = seen_files(alloc, nodes)?;
-    Course::new(alloc, plan, files)
-}
-
-/// The files that a graph has seen, with their stamps.
-fn seen_files(alloc: Global, nodes: &Nodes) -> Result<Stamps, AllocError>
-    ensures { IfOk result (λ files. files ≡ finite.entries nodes.now.seen) }
-{
-    let mut files = Items::with_room(alloc, nodes.files().len())?;
-    for (path, stamp) in nodes.files() {
-        files.push((path.clone()?, *stamp))?;
-    }
-    Ok(files)
+    Course::new(alloc, plan, nodes.seen_files())
 }

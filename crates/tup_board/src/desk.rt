@@ -98,7 +98,8 @@ pub(crate) trait Desk {
         ensures asks { Asks Self.Site.Site seat text.now
             (board self.old) result (board self.new) };
 
-    /// Answers for a path that is no own output. A content that is kept isn't read again.
+    /// Answers for a path that is no own output. A content that is kept isn't read again. The graph has seen the core's
+    /// files; where its nodes may be gone, nothing is told.
     fn answer_other(
         &mut self,
         alloc: Global,
@@ -113,7 +114,7 @@ pub(crate) trait Desk {
         ensures asks { Asks Self.Site.Site seat text.now
             (board self.old) result (board self.new) };
 
-    /// Reads what stands at a path, and answers it.
+    /// Reads what stands at a path, of which the core's files have this stamp, and answers it.
     fn read(
         &mut self,
         alloc: Global,
@@ -121,10 +122,12 @@ pub(crate) trait Desk {
         seat: u32,
         text: &Text,
         path: &Path,
+        seen: Option<Stamp>,
     ) -> Result<Asked, BoardFault>
         requires plan { plan.now ≡ plan_of (board self.old) }
         requires runs { GoesOn (course_of (board self.old)) seat }
         requires asks_for { AsksFor (board self.old) seat text.now path.now }
+        requires seen { seen ≡ (state (board self.old)).files path.now }
         ensures asks { Asks Self.Site.Site seat text.now
             (board self.old) result (board self.new) };
 
@@ -137,11 +140,13 @@ pub(crate) trait Desk {
         seat: u32,
         text: &Text,
         path: &Path,
+        seen: Option<Stamp>,
         found: Option<Bytes>,
     ) -> Result<Asked, BoardFault>
         requires plan { plan.now ≡ plan_of (board self.old) }
         requires runs { GoesOn (course_of (board self.old)) seat }
         requires asks_for { AsksFor (board self.old) seat text.now path.now }
+        requires seen { seen ≡ (state (board self.old)).files path.now }
         requires found { IsTrue Self.Site.Site.tells
             → found ≡ finite.get (Self.Site.Site.world (board self.old).site).tree path.now }
         ensures asks { Asks Self.Site.Site seat text.now
@@ -244,10 +249,10 @@ impl<S: Site, R: Runner> Desk for Board<S, R> {
         text: &Text,
         path: &Path,
     ) -> Result<Asked, BoardFault> {
-        let stamp = self.course.file(path);
+        let stamp = self.ground.seen(path)?;
         match self.contents.copy(stamp)? {
             Some(content) => self.tell(alloc, plan, seat, text, path, Some(content), stamp),
-            None => self.read(alloc, plan, seat, text, path),
+            None => self.read(alloc, plan, seat, text, path, stamp),
         }
     }
 
@@ -258,9 +263,10 @@ impl<S: Site, R: Runner> Desk for Board<S, R> {
         seat: u32,
         text: &Text,
         path: &Path,
+        seen: Option<Stamp>,
     ) -> Result<Asked, BoardFault> {
         match self.ground.get(alloc, path) {
-            Ok(found) => self.tell_read(alloc, plan, seat, text, path, found),
+            Ok(found) => self.tell_read(alloc, plan, seat, text, path, seen, found),
             Err(fault) => Err(self.fail(plan, seat, fault)),
         }
     }
@@ -272,10 +278,11 @@ impl<S: Site, R: Runner> Desk for Board<S, R> {
         seat: u32,
         text: &Text,
         path: &Path,
+        seen: Option<Stamp>,
         found: Option<Bytes>,
     ) -> Result<Asked, BoardFault> {
         let stamp = stamp_at(&found);
-        if !same_stamp(&stamp, &self.course.file(path)) {
+        if !same_stamp(&stamp, &seen) {
             return Err(BoardFault::Memory);
         }
         self.contents.keep(stamp, &found);

@@ -18,6 +18,8 @@ mod WalkLaws
 mod LinksLaws
 pub mod WaitingLaws
 mod FilesLaws
+pub mod Entries
+pub mod SeenLaws
 mod MachineLaws
 mod StepLaws
 mod SameLaws

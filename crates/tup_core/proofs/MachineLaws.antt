@@ -84,7 +84,7 @@ pub record IsOpening (plan : Plan) (files : List (Names × Stamp)) (core : Core)
   pub generated : IsGenerated plan.rules core.generated
   pub inputs : AreInputsOfAll plan.rules core.inputs.items
   pub files_in : (path : Names) → stamp_in core.files path ≡ with_stamps (λ _. None) files path
-  pub room : HasRoomFor plan.rules (flag core.pending.items) core.files
+  pub room : HasRoomFor plan.rules (is_reached plan) core.files
   pub going : core.stopped ≡ None
 
 pub opened_core : (plan : Plan) (files : List (Names × Stamp)) (core : Core) → IsOpening plan files core → IsCore plan core
@@ -95,7 +95,7 @@ opened_core plan files core made = record {
   seats = ap length made.seats ∙ length_none Running 16;
   generated = made.generated;
   inputs = made.inputs;
-  room = λ at rule path up here writes. made.room at rule path (made.pending at ∙ up) here writes;
+  room = made.room;
   waiting = subst (λ (reached : ℕ → Bool). IsWaiting plan.rules reached core.pending.items core.waiting) (λ i at. made.pending at i) made.waiting;
   reached = λ at up. sym (made.pending at) ∙ up;
   settled = λ at reached down. absurd (true≢false (sym reached ∙ sym (made.pending at) ∙ down));
@@ -135,7 +135,7 @@ reached_more reach i item q flags within is fits was =
 pub in_reach : (plan : Plan) (i item : ℕ) → i < length plan.reach → item ≡ get_or plan.reach i item → is_reached plan item ≡ true
 in_reach plan i item within is = list_any_at (λ number. item == number) plan.reach i item within (eq-eqb item (get_or plan.reach i item) is)
 
-next_is : (plan : Plan) (list : List ℕ) (i : ℕ) → list ≡ plan.reach → i < length list → get_or list i 0 ≡ get_or plan.reach i (get_or list i 0)
+pub next_is : (plan : Plan) (list : List ℕ) (i : ℕ) → list ≡ plan.reach → i < length list → get_or list i 0 ≡ get_or plan.reach i (get_or list i 0)
 next_is plan list i is less = get_or_default list i 0 (get_or list i 0) less ∙ ap (λ (l : List ℕ). get_or l i (get_or list i 0)) is
 
 -- the next number of the reach is the place of a rule

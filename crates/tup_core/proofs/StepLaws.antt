@@ -43,9 +43,10 @@ not_refusal : {T : Type 0} → (let r : Result T CoreFault = Err Memory in r ≡
 not_refusal e = cc
 
 -- an event that is taken
-pub answer_ok : {T : Type 0} (plan : Plan) (old new : Core) (event : CoreEvent) (done : T) → IsCore plan new → Step plan (state_of old) event (state_of new) → Answers plan old event (Ok done) new
-answer_ok plan old new event done is step = record {
+pub answer_ok : {T : Type 0} (plan : Plan) (old new : Core) (event : CoreEvent) (done : T) → IsCore plan new → new.files.first ≡ old.files.first → Step plan (state_of old) event (state_of new) → Answers plan old event (Ok done) new
+answer_ok plan old new event done is first step = record {
   core = is;
+  first = first;
   ok = λ one e. step;
   not_enabled = λ e. absurd (not_both NotEnabled done (sym e));
   memory = λ e. absurd (not_both Memory done (sym e));
@@ -93,6 +94,7 @@ answer_memory {T} plan old from event result is takes seats refused_so = subst (
   core =
       core_seats plan old (record old { seats = from.seats }) is is.claimed (ap length seats ∙ is.seats)
       (subst (λ (items : List (Option Running)). (other : ℕ) (running : Running) → entry items other ≡ Some running → IsSettled plan old running.rule) (sym seats) is.running);
+  first = refl;
   ok = λ done e. absurd (not_both Memory done e);
   not_enabled = λ e. absurd (not_refusal e);
   memory = λ e. takes;
@@ -129,7 +131,7 @@ claim_taken plan old from seat at done is free ready claimed seats =
     answer_ok plan old (record old { claimed = from.claimed; seats = from.seats }) (Claim seat at) done
     (core_seats plan old (record old { claimed = from.claimed; seats = from.seats }) is (ap length claimed ∙ length-set old.claimed.items at true ∙ is.claimed) (ap length seats ∙ length-set old.seats.items seat (Some (fresh at)) ∙ is.seats)
     (subst (λ (items : List (Option Running)). (other : ℕ) (running : Running) → entry items other ≡ Some running → IsSettled plan old running.rule) (sym seats)
-    (running_set (IsSettled plan old) old.seats.items seat (Some (fresh at)) within is.running (λ running now. subst (λ (r : Running). IsSettled plan old r.rule) (same_Some (fresh at) running now) settled)))) (
+    (running_set (IsSettled plan old) old.seats.items seat (Some (fresh at)) within is.running (λ running now. subst (λ (r : Running). IsSettled plan old r.rule) (same_Some (fresh at) running now) settled)))) refl (
       (subst (λ (n : ℕ). seat < n) is.seats within, seat_here old.seats.items seat None free, ready),
       λ i. record {
         pending = flag old.pending.items;
@@ -171,13 +173,13 @@ pub ask_taken : {T : Type 0} (plan : Plan) (old from : Core) (seat : ℕ) (text 
     from.seats.items ≡ slice_set old.seats.items seat (option_map (asked text answer) (entry old.seats.items seat)) → Answers plan old (Ask seat text answer) (Ok done) (record old { seats = from.seats })
 ask_taken plan old from seat text answer done is can seats =
     let both = seat_changed plan old from seat (asked text answer) is (λ running. refl) can.3.within seats in
-    answer_ok plan old (record old { seats = from.seats }) (Ask seat text answer) done both.0 (can, both.1)
+    answer_ok plan old (record old { seats = from.seats }) (Ask seat text answer) done both.0 refl (can, both.1)
 
 pub deny_taken : {T : Type 0} (plan : Plan) (old from : Core) (seat : ℕ) (text : List ℕ) (verdict : Verdict) (done : T) → IsCore plan old → CanDeny plan (state_of old) seat text verdict →
     from.seats.items ≡ slice_set old.seats.items seat (option_map (refused text verdict) (entry old.seats.items seat)) → Answers plan old (Deny seat text verdict) (Ok done) (record old { seats = from.seats })
 deny_taken plan old from seat text verdict done is can seats =
     let both = seat_changed plan old from seat (refused text verdict) is (λ running. refl) can.2.within seats in
-    answer_ok plan old (record old { seats = from.seats }) (Deny seat text verdict) done both.0 (can, both.1)
+    answer_ok plan old (record old { seats = from.seats }) (Deny seat text verdict) done both.0 refl (can, both.1)
 
 -- ---- a stop
 
@@ -188,7 +190,7 @@ stop_taken plan old from seat cause done is within good seats stopped =
     answer_ok plan old (record old { seats = from.seats; stopped = from.stopped }) (Stop seat cause) done
     (core_seats plan old (record old { seats = from.seats; stopped = from.stopped }) is is.claimed (ap length seats ∙ length-set old.seats.items seat None ∙ is.seats)
     (subst (λ (items : List (Option Running)). (other : ℕ) (running : Running) → entry items other ≡ Some running → IsSettled plan old running.rule) (sym seats)
-    (running_set (IsSettled plan old) old.seats.items seat None inside is.running (λ running now. absurd (none-some running now))))) (
+    (running_set (IsSettled plan old) old.seats.items seat None inside is.running (λ running now. absurd (none-some running now))))) refl (
       (within, good),
       λ i. record {
         pending = flag old.pending.items;
@@ -299,7 +301,7 @@ completed_new at old from up pending done = record {
 -- a Good end
 module _ (plan : Plan) (old : Core) (seat at : ℕ) (written : List (Names × Stamp)) (from : Core) (is : IsCore plan old) (ends : MayEnd plan old seat Good written at) (seats : from.seats.items ≡ slice_set old.seats.items seat None)
     (pending : from.pending.items ≡ slice_set old.pending.items at false) (waiting : IsWaiting plan.rules (is_reached plan) from.pending.items from.waiting) (fewer : (other : ℕ) → number from.waiting.waits.items other ≤ number old.waiting.waits.items other)
-    (stamps : (path : Names) → stamp_in from.files path ≡ with_stamps (stamp_in old.files) written path) (room : (path : Names) → has_room from.files path ≡ has_room old.files path) where
+    (first : from.files.first ≡ old.files.first) (stamps : (path : Names) → stamp_in from.files path ≡ with_stamps (stamp_in old.files) written path) (room : (path : Names) → has_room from.files path ≡ has_room old.files path) where
   inside : at < length old.pending.items
   inside = subst (λ (n : ℕ). at < n) (sym is.pending) (ends_within plan old seat Good written at is ends).0
 
@@ -339,6 +341,7 @@ module _ (plan : Plan) (old : Core) (seat at : ℕ) (written : List (Names × St
   pub good_taken : Takes plan old (Finish seat Good written) (record old { seats = from.seats; pending = from.pending; waiting = from.waiting; files = from.files })
   good_taken = record {
     core = good_core;
+    first = first;
     step = (
       (ends.running, ends.rule, ends.runs, ends.fits),
       (λ i. record {
@@ -355,12 +358,12 @@ module _ (plan : Plan) (old : Core) (seat at : ℕ) (written : List (Names × St
 
 -- the same, with the core between its writes
 pub finished_well : (plan : Plan) (old middle done from : Core) (seat at : ℕ) (written : List (Names × Stamp)) → IsCore plan old → MayEnd plan old seat Good written at → middle.seats.items ≡ slice_set old.seats.items seat None →
-    Completes at (record old { seats = middle.seats }) done → ((path : Names) → stamp_in from.files path ≡ with_stamps (stamp_in done.files) written path) → ((path : Names) → has_room from.files path ≡ has_room done.files path) →
+    Completes at (record old { seats = middle.seats }) done → from.files.first ≡ done.files.first → ((path : Names) → stamp_in from.files path ≡ with_stamps (stamp_in done.files) written path) → ((path : Names) → has_room from.files path ≡ has_room done.files path) →
     Takes plan old (Finish seat Good written) (record done { files = from.files })
-finished_well plan old middle done from seat at written is ends seats completes stamps room =
+finished_well plan old middle done from seat at written is ends seats completes first stamps room =
     subst (λ (core : Core). Takes plan old (Finish seat Good written) (record core { files = from.files })) (sym completes.rest)
     (good_taken plan old seat at written (record old { seats = middle.seats; pending = done.pending; waiting = done.waiting; files = from.files }) is ends seats completes.pending
-    (completes.waiting plan.rules (is_reached plan) is.waiting) completes.fewer
+    (completes.waiting plan.rules (is_reached plan) is.waiting) completes.fewer (first ∙ ap (λ (core : Core). core.files.first) completes.rest)
     (λ path. stamps path ∙ ap (λ (core : Core). with_stamps (stamp_in core.files) written path) completes.rest)
     (λ path. room path ∙ ap (λ (core : Core). has_room core.files path) completes.rest))
 
@@ -408,7 +411,7 @@ finished_bad plan old from seat at verdict written done is bad ends seats bads s
       settled = is.settled;
       running = λ other running now.
           running_set (IsSettled plan old) old.seats.items seat None inside is.running (λ one none. absurd (none-some one none)) other running (sym (ap (λ (items : List (Option Running)). entry items other) seats) ∙ now);
-    }) (
+    }) refl (
       (ends.running, ends.rule, ends.runs, ends.fits),
       (λ i. record {
         pending = flag old.pending.items;

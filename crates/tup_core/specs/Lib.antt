@@ -6,7 +6,6 @@ pub mod Kept
 pub mod Planned
 pub mod Settled
 pub mod Laws
-pub mod Listed
 pub mod Files
 pub mod Waiting
 pub mod Links

@@ -3,9 +3,12 @@ use Rattle.std.specs.Prelude.{◌≡◌, ◌==◌, ℕ, ◌<◌, ◌≤◌, Bool
 use Rattle.tup_stamp.specs.declared.Stamp.{Stamp}
 use Rattle.tup_path.specs.Name.{Names}
 use Rattle.tup_rule.specs.declared.rule.Rule.{Rule}
+use Rattle.tup_rule.specs.Rule.{writes}
+use Rattle.tup_access.specs.Access.{access}
 use Rattle.tup_access.specs.Generated.{IsGenerated}
 use Rattle.tup_access.specs.Inputs.{AreInputsOfAll}
 use Rattle.tup_access.specs.declared.verdict.Verdict.{Verdict}
+use Rattle.tup_access.specs.declared.verdict.Access.TheVariants.{Yes}
 use Rattle.tup_access.specs.declared.verdict.Verdict.TheVariants.{Good}
 use Rattle.tup_core.specs.declared.event.CoreEvent.{CoreEvent}
 use Rattle.tup_core.specs.declared.event.CoreEvent.TheVariants.{Claim, Ask, Deny, Finish, Stop}
@@ -16,7 +19,7 @@ use Rattle.tup_core.specs.declared.running.Running.{Running}
 use Rattle.tup_core.specs.declared.machine.Core.{Core}
 use Rattle.tup_core.specs.Step.{State, Step, IsEnabled, FitsEnd, Runs, is_reached}
 use Rattle.tup_core.specs.Waiting.{flag, number, IsWaiting}
-use Rattle.tup_core.specs.Files.{stamp_in, HasRoomFor}
+use Rattle.tup_core.specs.Files.{stamp_in, IsSeenAt, HasRoomFor}
 use Rattle.tup_core.specs.Ending.{IsUnrefused}
 
 -- what stands at a place, which is nothing past the end
@@ -66,9 +69,23 @@ TakesMemory state (Finish seat Good writes) = ⊥
 TakesMemory state (Finish seat verdict writes) = IsUnrefused (state.seats seat)
 TakesMemory state (Stop seat cause) = ⊥
 
+-- what has to be looked up for an event: for an ask, the stamp at the opening of the path that is asked for, unless the path is an own output
+abbrev pub IsSeenFor : Plan → Core → CoreEvent → Option Stamp → Type 0
+IsSeenFor plan core (Ask seat text answer) seen =
+    (running : Running) (rule : Rule) (path : Names) → Runs plan (state_of core) seat running rule → access plan.rules rule (length running.asks) text ≡ Yes path
+    → writes rule path ≡ false → IsSeenAt core.files path seen
+IsSeenFor plan core event seen = Unit {0}
+
+-- what a command is answered by an event that is an ask
+abbrev pub answered : CoreEvent → Option Stamp
+answered (Ask seat text answer) = answer
+answered event = None
+
 -- how a core answers an event, and what it is then
 pub record Answers {T : Type 0} (plan : Plan) (old : Core) (event : CoreEvent) (result : Result T CoreFault) (new : Core) : Type 0 where
   pub core : IsCore plan new
+  -- it goes by the same files at its opening
+  pub first : new.files.first ≡ old.files.first
   -- it takes the event where it is enabled
   pub ok : (done : T) → result ≡ Ok done → Step plan (state_of old) event (state_of new)
   pub not_enabled : result ≡ Err NotEnabled → IsEnabled plan (state_of old) event → ⊥
@@ -79,6 +96,7 @@ pub record Answers {T : Type 0} (plan : Plan) (old : Core) (event : CoreEvent) (
 -- a core takes an event
 pub record Takes (plan : Plan) (old : Core) (event : CoreEvent) (new : Core) : Type 0 where
   pub core : IsCore plan new
+  pub first : new.files.first ≡ old.files.first
   pub step : Step plan (state_of old) event (state_of new)
 
 -- the rule at a place is pending no longer

@@ -1,5 +1,7 @@
 //! The machine.
-ghost use Rattle.std.specs.Prelude.{◌≡◌, ◌≢◌, ◌↔◌, ◌<◌, true, None, Some, IsTrue, IfOk, IfErr, OnErr, MatchOption, length, List, slice_get, unwrap_or};
+ghost use Rattle.std.specs.Prelude.{◌≡◌, ◌≢◌, ◌↔◌, ◌<◌, true, false, None, Some, IsTrue, IfOk, IfErr, OnErr, MatchOption, length, List, slice_get, unwrap_or};
+ghost use Rattle.std.specs.FinMap as finite;
+ghost use Rattle.tup_rule.specs.Rule.{writes};
 ghost use Rattle.tup_rule.specs.declared.rule.Rule.{Rule as RuleValue};
 ghost use Rattle.tup_core.specs.declared.running.Running.{Running as RunningValue};
 ghost use Rattle.tup_access.specs.Access.{access as access_of};
@@ -11,7 +13,8 @@ ghost use Rattle.tup_core.specs.Step.{IsReady, opening, CanAsk, CanDeny, CanFini
 ghost use Rattle.tup_core.specs.Sound.{IsInRange};
 ghost use Rattle.tup_core.specs.Waiting.{flag, CanRelease};
 ghost use Rattle.tup_core.specs.Ending.{IsUnrefused};
-ghost use Rattle.tup_core.specs.Machine.{entry, state_of, ready_test, IsCore, Answers, Takes, Completes, MayEnd};
+ghost use Rattle.tup_core.specs.Files.{IsSeenAt};
+ghost use Rattle.tup_core.specs.Machine.{entry, state_of, ready_test, IsCore, IsSeenFor, Answers, Takes, Completes, MayEnd};
 
 mod reading;
 
@@ -28,7 +31,7 @@ use std::alloc::Global;
 use std::collections::BTreeSet;
 use tup_access::{Access, Inputs, MAX_ASKS, Verdict, allowed};
 use tup_clean::generated;
-use tup_path::{Path, Text};
+use tup_path::{ByPath, Path, Text};
 use tup_rule::Rule;
 use tup_stamp::Stamp;
 
@@ -53,11 +56,13 @@ pub struct Core {
 impl Core {
     /// The opening of a plan over files with their stamps: its reach is pending, and nothing was claimed, runs, is
     /// bad or stopped. It takes the memory for all that comes, the asks of commands and the texts of bad verdicts
-    /// aside. It is refused for want of memory alone.
-    pub fn new(alloc: Global, plan: &Plan, files: Stamps) -> Result<Core, CoreFault>
+    /// aside, and none for the files: they stay with the caller. It is refused for want of memory alone.
+    pub fn new(alloc: Global, plan: &Plan, files: &ByPath<Stamp>) -> Result<Core, CoreFault>
         requires { IsInRange plan.now }
         ensures core { IfOk result (IsCore plan.now) }
-        ensures state { IfOk result (λ core. state_of core ≡ opening plan.now files) }
+        ensures first { IfOk result (λ core. core.files.first.value ≡ files.now) }
+        ensures state { IfOk result (λ core. state_of core
+            ≡ opening plan.now (finite.entries files.now)) }
         ensures memory { IfErr result (λ fault. fault ≡ CoreFault.Memory) }
     {
         let rules = plan.rules.as_slice();
@@ -66,7 +71,7 @@ impl Core {
             generated: generated(alloc, rules)?,
             inputs: inputs_of_all(alloc, rules, &pending)?,
             waiting: Waiting::new(alloc, rules, &pending)?,
-            files: FileStamps::new(alloc, files, rules, &pending)?,
+            files: FileStamps::new(alloc, files, plan)?,
             pending,
             claimed: lowered(alloc, rules.len())?,
             seats: nothing(alloc, SEATS)?,
@@ -94,15 +99,25 @@ impl Core {
             && self.waiting.is_clear(at)
     }
 
-    /// Takes an event where it is enabled. `NotEnabled` and `Memory` leave the state as it was; `Memory` answers an Ask,
-    /// a Deny and a bad Finish of a command that was refused nothing, and no other event.
-    pub fn step(&mut self, alloc: Global, plan: &Plan, event: &CoreEvent) -> Result<(), CoreFault>
-        requires { IsCore plan.now self.old }
+    /// Takes an event where it is enabled. For an Ask `seen` is the stamp at the opening of the path that its text names.
+    /// `NotEnabled` and `Memory` leave the state as it was; `Memory` answers an Ask, a Deny and a bad Finish of a command
+    /// that was refused nothing, and no other event.
+    pub fn step(
+        &mut self,
+        alloc: Global,
+        plan: &Plan,
+        event: &CoreEvent,
+        seen: Option<Stamp>,
+    ) -> Result<(), CoreFault>
+        requires core { IsCore plan.now self.old }
+        requires seen { IsSeenFor plan.now self.old event.now seen }
         ensures { Answers plan.now self.old event.now result self.new }
     {
         match event {
             CoreEvent::Claim { seat, rule } => self.claim(alloc, plan, *seat, *rule),
-            CoreEvent::Ask { seat, text, answer } => self.ask(alloc, plan, *seat, text, *answer),
+            CoreEvent::Ask { seat, text, answer } => {
+                self.ask(alloc, plan, *seat, text, *answer, seen)
+            }
             CoreEvent::Deny {
                 seat,
                 text,
@@ -143,11 +158,13 @@ impl Core {
         seat: u32,
         text: &Text,
         answer: Option<Stamp>,
+        seen: Option<Stamp>,
     ) -> Result<(), CoreFault>
-        requires { IsCore plan.now self.old }
+        requires core { IsCore plan.now self.old }
+        requires seen { IsSeenFor plan.now self.old (CoreEvent.Ask seat text.now answer) seen }
         ensures { Answers plan.now self.old (CoreEvent.Ask seat text.now answer) result self.new }
     {
-        if !self.may_ask(alloc, plan, seat, text, answer)? {
+        if !self.may_ask(alloc, plan, seat, text, answer, seen)? {
             return Err(CoreFault::NotEnabled);
         }
         ask_at(&mut self.seats, seat as usize, text, answer)?;
@@ -181,8 +198,10 @@ impl Core {
         seat: u32,
         text: &Text,
         answer: Option<Stamp>,
+        seen: Option<Stamp>,
     ) -> Result<bool, CoreFault>
-        requires { IsCore plan.now self.now }
+        requires core { IsCore plan.now self.now }
+        requires seen { IsSeenFor plan.now self.now (CoreEvent.Ask seat text.now answer) seen }
         ensures ok { IfOk result (λ may. IsTrue may
             ↔ CanAsk plan.now (state_of self.now) seat text.now answer) }
         ensures memory { IfErr result (λ fault. fault ≡ CoreFault.Memory) }
@@ -193,7 +212,7 @@ impl Core {
         };
         let rule = &plan.rules.as_slice()[running.rule as usize];
         match self.access(alloc, rule, running, text)? {
-            Access::Yes(path) => Ok(same_answer(&self.told(rule, &path), &answer)),
+            Access::Yes(path) => Ok(same_answer(&self.told(rule, &path, seen), &answer)),
             Access::No(_) => Ok(false),
         }
     }
@@ -277,14 +296,15 @@ impl Core {
         Ok(allowed(alloc, rule, inputs, &self.generated, text, asked)?)
     }
 
-    /// What a rule's command is answered for a path.
-    fn told(&self, rule: &Rule, path: &Path) -> Option<Stamp>
+    /// What a rule's command is answered for a path that had this stamp at the opening.
+    fn told(&self, rule: &Rule, path: &Path, seen: Option<Stamp>) -> Option<Stamp>
+        requires { writes rule.now path.now ≡ false → IsSeenAt self.now.files path.now seen }
         ensures { result ≡ specs.told rule.now (state_of self.now) path.now }
     {
         if rule.writes(path) {
             return None;
         }
-        self.files.get(path)
+        self.files.get(path, seen)
     }
 
     fn finish(

@@ -1,7 +1,7 @@
 //! The calls of `course.rows`: the sources and the rules that rows give, and the course that they are on.
 use crate::answer::show_events;
 use crate::desk::Desk;
-use crate::opening::reach_at;
+use crate::opening::{by_path, reach_at};
 use crate::orders::obey;
 use std::alloc::Global;
 use tup_core::{Plan, Stamps};
@@ -72,7 +72,7 @@ impl Courses {
             reach: reach_at(alloc, said, 0),
             keep_going,
         };
-        Desk::new(alloc, plan, self.files.clone()?)
+        Desk::new(alloc, plan, by_path(alloc, self.files.clone()?)?)
     }
 
     /// Does what a row says to the course.

@@ -1,5 +1,6 @@
-//! A course with its plan, whose seats are driven by hand.
+//! A course with its plan and the files of its opening, whose seats are driven by hand.
 ghost use Rattle.std.specs.Prelude.{◌≡◌, ◌<◌, ◌≢◌, ℕ, Some, IfOk, IsTrue, length, slice_get};
+ghost use Rattle.std.specs.FinMap as finite;
 ghost use Rattle.std.specs.Option.{option_copied};
 ghost use Rattle.tup_rule.specs.declared.rule.Rule.{Rule as RuleValue};
 ghost use Rattle.tup_core.specs.declared.running.Running.{Running as RunningValue};
@@ -11,7 +12,7 @@ use crate::opening::is_in_range;
 use std::alloc::{AllocError, Global};
 use tup_access::{Access, Verdict};
 use tup_core::{Cause, CoreEvent, Plan, Running, Stamps};
-use tup_path::{Items, Path, Text};
+use tup_path::{ByPath, Items, Path, Text};
 use tup_rows::RowFault;
 use tup_schedule::{Claimed, Course};
 use tup_stamp::Stamp;
@@ -29,22 +30,28 @@ pub(crate) enum Told {
     Idle,
 }
 
-/// A course, and the plan that it is told at each call.
+/// A course, the plan that it is told at each call, and the files at its opening.
 #[derive(Drop)]
 pub(crate) struct Desk {
     plan: Plan,
+    files: ByPath<Stamp>,
     pub(crate) course: Course,
     ghost of_plan: { course.plan ≡ plan },
+    ghost of_files: { course.files ≡ finite.entries files },
 }
 
 impl Desk {
     /// A course of a plan over files with these stamps. `OtherKind` where a number of the reach is none of a rule.
-    pub(crate) fn new(alloc: Global, plan: Plan, files: Stamps) -> Result<Desk, RowFault> {
+    pub(crate) fn new(alloc: Global, plan: Plan, files: ByPath<Stamp>) -> Result<Desk, RowFault> {
         if !is_in_range(&plan) {
             return Err(RowFault::OtherKind);
         }
-        match Course::new(alloc, &plan, files) {
-            Ok(course) => Ok(Desk { plan, course }),
+        match Course::new(alloc, &plan, &files) {
+            Ok(course) => Ok(Desk {
+                plan,
+                files,
+                course,
+            }),
             Err(_) => Err(RowFault::Memory),
         }
     }
@@ -149,7 +156,21 @@ impl Desk {
         if self.plan.rules.as_slice()[number as usize].writes(path) {
             return None;
         }
-        self.course.file(path)
+        self.file(path)
+    }
+
+    /// The stamp of the file at a path, if there is one.
+    pub(crate) fn file(&self, path: &Path) -> Option<Stamp>
+        ensures { result ≡ (now self.now.course).files path.now }
+    {
+        self.course.file(path, self.at_first(path))
+    }
+
+    /// The stamp of the file that was at a path at the opening, if there was one.
+    fn at_first(&self, path: &Path) -> Option<Stamp>
+        ensures { result ≡ finite.get self.now.files path.now }
+    {
+        self.files.get(path).copied()
     }
 
     /// It is denied.

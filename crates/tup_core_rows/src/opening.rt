@@ -7,9 +7,9 @@ use crate::machine::Machine;
 use std::alloc::{AllocError, Global};
 use tup_core::{Numbers, Plan, Stamps};
 use tup_given::Project;
-use tup_path::{Files, Items, Shared};
+use tup_path::{ByPath, Files, Items, Shared};
 use tup_rows::{RowFault, Words};
-use tup_stamp::stamp_of;
+use tup_stamp::{Stamp, stamp_of};
 
 /// A core where the rules of a reach are to be run. `OtherKind` where a number of the reach is
 /// none of a rule.
@@ -21,13 +21,13 @@ pub(crate) fn opening(
 ) -> Result<Machine, RowFault>
     ensures { IfOk result IsOfPlan }
 {
-    let stamps = stamps_of(alloc, &project.sources)?;
+    let files = by_path(alloc, stamps_of(alloc, &project.sources)?)?;
     let plan = Plan {
         rules: Shared::new(project.rules.clone()?)?,
         reach,
         keep_going,
     };
-    Machine::new(alloc, plan, stamps)
+    Machine::new(alloc, plan, files)
 }
 
 /// Whether the numbers of the reach are places of rules.
@@ -49,6 +49,15 @@ pub(crate) fn stamps_of(alloc: Global, files: &Files) -> Result<Stamps, AllocErr
         stamps.push((path.clone()?, stamp_of(content.as_slice())))?;
     }
     Ok(stamps)
+}
+
+/// Stamps by their paths; of two for one path the last stands.
+pub(crate) fn by_path(alloc: Global, stamps: Stamps) -> Result<ByPath<Stamp>, AllocError> {
+    let mut files = ByPath::new(alloc);
+    for (path, stamp) in stamps.into_vec() {
+        files.insert(path, stamp)?;
+    }
+    Ok(files)
 }
 
 /// The numbers of rules that a word of a row is, parted by blanks.

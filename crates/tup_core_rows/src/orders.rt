@@ -116,7 +116,7 @@ fn file(alloc: Global, desk: &Desk, said: &Words) -> Words {
     let content = said.word_at(1);
     Words::yes_or_no(
         alloc,
-        desk.course.file(&said.path_at(alloc, 0)) == stamp_in(content),
+        desk.file(&said.path_at(alloc, 0)) == stamp_in(content),
     )
 }
 

@@ -26,7 +26,7 @@ use Rattle.tup_law_graph.proofs.Reached.{none_left}
 use Rattle.tup_core.specs.Planned.{IsPlanned, clean_of}
 use Rattle.tup_core.specs.declared.plan.Plan.{Plan}
 use Rattle.tup_core.proofs.CleanRuns.{contents_clean, files_clean, succeeds_clean}
-use Rattle.tup_board.proofs.Openings.{stamps_of_entries}
+use Rattle.tup_core.proofs.Entries.{stamps_of_entries}
 use Rattle.tup_law_phases.specs.Language.{tupfiles}
 use Rattle.tup_law_phases.specs.Planning.{kept_of}
 use Rattle.tup_law_phases.proofs.Planned.{planned}

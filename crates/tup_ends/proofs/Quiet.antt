@@ -26,7 +26,7 @@ use Rattle.tup_board.specs.Board.{BoardState, course_of, first_graph, plan_of, s
 use Rattle.tup_board.specs.Calls.{IsOver, commands}
 use Rattle.tup_board.specs.Sound.{Before, IsSound}
 use Rattle.tup_board.proofs.Known.{keeps_all}
-use Rattle.tup_board.proofs.Openings.{stamps_of_entries}
+use Rattle.tup_core.proofs.Entries.{stamps_of_entries}
 use Rattle.tup_law_site.proofs.Remaining.{is_kept}
 use Rattle.tup_law_site.proofs.Stores.{one_in_bytes}
 use Rattle.tup_law_phases.specs.Language.{tupfiles}

@@ -46,7 +46,7 @@ use Rattle.tup_core.proofs.Orderly.{IsOrderly}
 use Rattle.tup_core.proofs.Standing.{asks_stand}
 use Rattle.tup_rule_outputs.specs.Lost.{Lost}
 use Rattle.tup_schedule.proofs.Courses.{end_both}
-use Rattle.tup_board.proofs.Openings.{stamps_of_entries}
+use Rattle.tup_core.proofs.Entries.{stamps_of_entries}
 use Rattle.tup_law_graph.proofs.Edited.{kept_more}
 use Rattle.tup_law_board.specs.Kept.{AskStands, CameTo, HoldsTogether}
 use Rattle.tup_law_board.proofs.Honestly.{noted_ask, record_true}

@@ -1,6 +1,7 @@
 -- What a commit leaves of a ground, by what it leaves of the graph.
 use Rattle.std.proofs.Common.{◌≡◌, ℕ, Bool, true, false, List, Option, None, Some, Result, Ok, Err, ⊎_elim, refl, sym, ap, ◌∙◌}
 use Rattle.std.specs.Prelude.{if◌then◌else◌, IsTrue, is_none}
+use Rattle.std.proofs.lemmas.Bool.{false≢true}
 use Rattle.std.proofs.lemmas.Option.{same_Some}
 use Rattle.tup_path.specs.Gives.{GivesUnless}
 use Rattle.tup_site.specs.World.{TreeStays}
@@ -53,6 +54,7 @@ module _ {S : Type 0} (site : Site S) (number : ℕ) (run : Option RunRecord) (e
         ap (λ (s : S). record { site = s; graph = graph_now; lost = (new (Err fault)).lost }) stays ∙ ap (λ (h : Held). record { site = old.site; graph = h; lost = (new (Err fault)).lost }) same
         ∙ ap (λ (l : Option Lost). record { site = old.site; graph = old.graph; lost = l }) (none_now ∙ sym none);
     lost = λ commit e. absurd (some_none commit (sym e ∙ none_now));
+    still = λ commit e by. absurd (some_none commit (sym e ∙ none_now));
     full = λ e. is_full (same_fault (of_graph fault) _ e);
     room = λ done e _. cc;
     small = λ bytes e. small bytes (same_fault (of_graph fault) _ e);
@@ -68,16 +70,17 @@ module _ {S : Type 0} (site : Site S) (number : ℕ) (run : Option RunRecord) (e
       none_now = ap (λ (b : Bool). if b then old.lost else Some (record { by_site = by_site fault; rule = number; run = run })) fresh_now ∙ none
 
   -- it was refused, and may stand in the store or not
-  lost : (fault : GraphFault) → is_fresh graph_now ≡ false → of_graph fault ≡ lost_fault (record { by_site = by_site fault; rule = number; run = run })
+  lost : (fault : GraphFault) → is_fresh graph_now ≡ false → (IsTrue (by_site fault) → graph_now.nodes ≡ old.graph.nodes) → of_graph fault ≡ lost_fault (record { by_site = by_site fault; rule = number; run = run })
       → (of_graph fault ≡ board.Full → ⊥) → ((bytes : ℕ) → of_graph fault ≡ board.TooLarge bytes → ⊥)
       → Commits site number run edits nodes old (Err (of_graph fault)) (new (Err fault))
-  lost fault unfresh is not_full small = record {
+  lost fault unfresh stays is not_full small = record {
     is_ground = record { fresh = unfresh ∙ sym (ap is_none lost_is); stands = λ tells none_now. absurd (some_none (commit_of fault) (sym lost_is ∙ none_now)) };
     ok = λ done e. absurd (cc);
     err = λ _ _ none_now. absurd (some_none (commit_of fault) (sym lost_is ∙ none_now));
     lost = λ commit e.
         let same = same_Some _ _ (sym lost_is ∙ e) in
         (ap (λ (l : Lost). l.rule) (sym same), ap (λ (l : Lost). l.run) (sym same), ap refusal is ∙ ap (λ (l : Lost). refusal (lost_fault l)) same);
+    still = λ commit e by. stays (ap (λ (l : Lost). l.by_site) (same_Some _ _ (sym lost_is ∙ e)) ∙ by);
     full = λ e. absurd (not_full (same_fault (of_graph fault) _ e));
     room = λ done e _. cc;
     small = λ bytes e. small bytes (same_fault (of_graph fault) _ e);
@@ -97,6 +100,7 @@ module _ {S : Type 0} (site : Site S) (number : ℕ) (run : Option RunRecord) (e
     ok = λ _ _. (none, leaves.0);
     err = λ fault e. absurd (cc);
     lost = λ commit e. absurd (some_none commit (sym e ∙ none));
+    still = λ commit e by. absurd (some_none commit (sym e ∙ none));
     full = λ e. absurd (cc);
     room = λ _ _ full. ⊎_elim (λ memory. absurd (cc)) (λ same. absurd (cc)) (room full);
     small = λ bytes e. cc;
@@ -109,6 +113,6 @@ module _ {S : Type 0} (site : Site S) (number : ℕ) (run : Option RunRecord) (e
       fresh_now = ap is_fresh leaves.0 ∙ after_is_fresh old.graph edits nodes fresh
   committed (Err graph.NotThere) leaves room = absurd leaves
   committed (Err (graph.BadStore offset)) leaves room = absurd leaves
-  committed (Err graph.Site) leaves room = lost graph.Site (ap is_fresh leaves ∙ stale_is_unfresh old.graph) refl (λ e. cc) (λ bytes e. cc)
+  committed (Err graph.Site) leaves room = lost graph.Site (ap is_fresh leaves ∙ stale_is_unfresh old.graph) (λ by. ap (λ (h : Held). h.nodes) leaves) refl (λ e. cc) (λ bytes e. cc)
   committed (Err graph.Full) leaves room = refused graph.Full leaves.1 leaves.2 (λ _. leaves.0) (λ bytes e. cc)
-  committed (Err graph.Memory) leaves room = ⊎_elim (λ same. refused graph.Memory same.0 same.1 (λ e. absurd (cc)) (λ bytes e. cc)) (λ is. lost graph.Memory (lost_is_unfresh edits old.graph graph_now is) refl (λ e. cc) (λ bytes e. cc)) leaves
+  committed (Err graph.Memory) leaves room = ⊎_elim (λ same. refused graph.Memory same.0 same.1 (λ e. absurd (cc)) (λ bytes e. cc)) (λ is. lost graph.Memory (lost_is_unfresh edits old.graph graph_now is) (λ by. absurd (false≢true by)) refl (λ e. cc) (λ bytes e. cc)) leaves

@@ -163,6 +163,7 @@ module _ {S : Type 0} (site : Site S) (number : ℕ) (run : RunRecord) (files : 
         (λ lost. absurd (none_kept run (sym (commits.lost lost.0 lost.1).1 ∙ lost.2))) tried;
     lost = λ commit e. let is = commits.lost commit e in record { rule = is.0; kept = inl is.1; fault = is.2 };
     err = λ other e none. inl (commits.err fault refl none);
+    still = λ commit e by. ap (λ (n : GraphState). n.seen) (commits.still commit e by);
     full = λ e. inl (commits.full e, ap (λ (it : Ground S). it.graph) (commits.err fault refl (none_full None (begin_edits g number) (begun g number) old (Err fault) new commits e)));
     room = λ done e full. cc;
     small = commits.small;
@@ -243,6 +244,7 @@ module _ {S : Type 0} (site : Site S) (number : ℕ) (run : RunRecord) (files : 
               (λ lost. absurd (some_none lost.0 (sym lost.1 ∙ (begin.ok done refl).0))) tried;
           lost = λ commit e. absurd (some_none commit (sym e ∙ (begin.ok done refl).0));
           err = λ fault e none. inr mid_is;
+          still = λ commit e by. absurd (some_none commit (sym e ∙ (begin.ok done refl).0));
           full = λ e. absurd (never_full failed (same_fault (of_site failed) board.Full e));
           room = λ d e full. cc;
           small = λ bytes e. small bytes (of_too_large failed bytes (same_fault (of_site failed) (board.TooLarge bytes) e));
@@ -282,6 +284,7 @@ module _ {S : Type 0} (site : Site S) (number : ℕ) (run : RunRecord) (files : 
             made = λ tried tells. subst (HoldsFiles files) (sym (keep.tree tells)) (holds tells);
             lost = λ commit e. let is = keep.lost commit e in record { rule = is.0; kept = inr is.1; fault = is.2 };
             err = λ fault e none. inr (ap (λ (it : Ground S). it.graph) (keep.err fault e none) ∙ mid_is);
+            still = λ commit e by. ap (λ (n : GraphState). n.seen) (keep.still commit e by) ∙ ap (λ (h : Held). h.nodes.seen) mid_is;
             full = λ e. inr (
               subst (λ (h : Held). IsFull h (finish_edits h.nodes number run)) mid_is (keep.full e),
               ap (λ (it : Ground S). it.graph) (keep.err board.Full e (none_full (Some run) (finish_edits mid.graph.nodes number run) (finished mid.graph.nodes number run) there result end keep e)) ∙ mid_is,

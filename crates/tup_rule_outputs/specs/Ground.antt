@@ -74,12 +74,14 @@ pub record CanMake {S : Type 0} (site : Site S) (ground : Ground S) (number : �
 -- ---- one commit
 
 -- A commit of a rule was made or not, by the answer: with these edits, which leave these nodes, and this run to keep. No
--- commit was lost before; if this one is, its site or want of memory was the cause. Refused and not lost it did nothing.
+-- commit was lost before; if this one is, its site or want of memory was the cause. Refused and not lost it did nothing;
+-- lost to the site it left the graph its nodes.
 pub record Commits {S : Type 0} (site : Site S) (number : ℕ) (run : Option RunRecord) (edits : List Edit) (nodes : GraphState) (old : Ground S) (result : Result (Unit {0}) BoardFault) (new : Ground S) : Type 0 where
   pub is_ground : IsGround site new
   pub ok : (done : Unit {0}) → result ≡ Ok done → (new.lost ≡ None) × (new.graph ≡ after old.graph edits nodes)
   pub err : (fault : BoardFault) → result ≡ Err fault → new.lost ≡ None → new ≡ old
   pub lost : (commit : Lost) → new.lost ≡ Some commit → (commit.rule ≡ number) × (commit.run ≡ run) × (result ≡ Err (lost_fault commit))
+  pub still : (commit : Lost) → new.lost ≡ Some commit → IsTrue commit.by_site → new.graph.nodes ≡ old.graph.nodes
   pub full : result ≡ Err Full → IsFull old.graph edits
   pub room : (done : Unit {0}) → result ≡ Ok done → IsFull old.graph edits → ⊥
   pub small : (bytes : ℕ) → result ≡ Err (TooLarge bytes) → ⊥
@@ -152,6 +154,8 @@ pub record MakesFiles {S : Type 0} (site : Site S) (number : ℕ) (run : RunReco
   -- else a commit is lost, or all is as it was, or the run began
   pub lost : (commit : Lost) → new.lost ≡ Some commit → Loses number run result commit
   pub err : (fault : BoardFault) → result ≡ Err fault → new.lost ≡ None → (new ≡ old) ⊎ (new.graph ≡ after_begin old.graph number)
+  -- a commit that is lost to the site leaves what the graph has seen
+  pub still : (commit : Lost) → new.lost ≡ Some commit → IsTrue commit.by_site → new.graph.nodes.seen ≡ old.graph.nodes.seen
   pub full : result ≡ Err Full → WasFull old.graph number run new.graph (IsTrue site.tells → HoldsFiles files (site.world new.site).tree)
   pub room : (done : Unit {0}) → result ≡ Ok done → LacksRoomFor old.graph number run → ⊥
   pub small : (bytes : ℕ) → result ≡ Err (TooLarge bytes) → ⊥

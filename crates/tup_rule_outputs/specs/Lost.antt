@@ -1,5 +1,5 @@
 -- A commit after which a graph stands for its store no longer (own).
-use Rattle.std.specs.Prelude.{◌≡◌, ℕ, Option, Some, Bool, IsTrue, refl, option_map}
+use Rattle.std.specs.Prelude.{◌≡◌, ℕ, Option, None, Some, Bool, IsTrue, refl, option_map}
 use Rattle.std.specs.Coded.{Coded, code_by, coded×, coded_ℕ, coded_bool, coded_option}
 use Rattle.std.specs.declared.snapshot.Snapshot.{Snapshot}
 use Rattle.tup_record.specs.contracts.run.RunRecord as of_run
@@ -21,6 +21,11 @@ lost_code =
 -- a commit was lost to the site
 abbrev pub WasLostToSite : Option Lost → Type 0
 WasLostToSite lost = (commit : Lost) × (lost ≡ Some commit) × IsTrue commit.by_site
+
+-- the graph still has its nodes: no commit was lost, or one was lost to the site. Where memory was wanting they may be gone
+abbrev pub HasNodes : Option Lost → Type 0
+HasNodes None = Unit {0}
+HasNodes (Some commit) = IsTrue commit.by_site
 
 -- the record that a snapshot remembers
 abbrev pub run_in : Option (Snapshot RunRecord) → Option RunRecord

@@ -1,7 +1,8 @@
 //! The site of a board, and the graph of its store.
-ghost use Rattle.std.specs.Prelude.{◌≡◌, true, None, Some, Err};
+ghost use Rattle.std.specs.Prelude.{◌≡◌, ◌↔◌, true, None, Some, Err, IsTrue};
 ghost use Rattle.tup_graph.specs.Graph.{is_rule};
 ghost use Rattle.tup_graph.specs.Transactions.{begin_edits, begun, finish_edits, finished};
+ghost use Rattle.tup_rule_outputs.specs.Lost.{HasNodes};
 ghost use Rattle.tup_stored_graph.specs.Held.{is_fresh};
 
 use crate::fault::{BoardFault, board_fault, is_by_site};
@@ -61,6 +62,16 @@ impl Lost {
         } else {
             BoardFault::Memory
         }
+    }
+}
+
+/// Whether the graph still has its nodes. They may be gone where memory was wanting for a commit.
+pub(crate) fn has_nodes(lost: &Option<Lost>) -> bool
+    ensures { IsTrue result ↔ HasNodes lost.now }
+{
+    match lost {
+        Some(lost) => lost.by_site,
+        None => true,
     }
 }
 

@@ -1,14 +1,16 @@
 //! What looks up files for a command.
-ghost use Rattle.std.specs.Prelude.{◌≡◌, ◌≢◌, None, Err, IsTrue, IfOk};
+ghost use Rattle.std.specs.Prelude.{◌≡◌, ◌≢◌, None, Err, IsTrue, IfOk, IfErr, OnOk};
 ghost use Rattle.std.specs.FinMap as finite;
 ghost use Rattle.tup_rule_outputs.specs.Fault.{CountsFaults};
 ghost use Rattle.tup_rule_outputs.specs.Ground.{NamesLength, OnlyLarge, ReadsSite};
+ghost use Rattle.tup_rule_outputs.specs.Lost.{HasNodes};
 
 use crate::fault::BoardFault;
-use crate::ground::Ground;
+use crate::ground::{Ground, has_nodes};
 use std::alloc::Global;
 use tup_path::{Bytes, Path};
 use tup_site::Site;
+use tup_stamp::Stamp;
 
 /// What looks up files for a command.
 ///
@@ -34,6 +36,13 @@ pub trait Reads {
         ensures reads { ReadsSite Self.Site.Site (base self.old) (base self.new) }
         ensures cause { CountsFaults (Self.Site.Site.faults (base self.old).site)
             (Self.Site.Site.faults (base self.new).site) None result };
+
+    /// The stamp of a file as the graph has seen it, if it has. `Memory` comes where the graph's nodes may be gone.
+    fn seen(&self, path: &Path) -> Result<Option<Stamp>, BoardFault>
+        ensures nodes { OnOk result (HasNodes (base self.now).lost) }
+        ensures stamp { IfOk result (λ stamp. stamp
+            ≡ finite.get (base self.now).graph.nodes.seen path.now) }
+        ensures memory { IfErr result (λ fault. fault ≡ BoardFault.Memory) };
 }
 
 impl<S: Site> Reads for Ground<S> {
@@ -43,5 +52,12 @@ impl<S: Site> Reads for Ground<S> {
 
     fn get(&mut self, alloc: Global, path: &Path) -> Result<Option<Bytes>, BoardFault> {
         Ok(self.site.get(alloc, path)?)
+    }
+
+    fn seen(&self, path: &Path) -> Result<Option<Stamp>, BoardFault> {
+        if !has_nodes(&self.lost) {
+            return Err(BoardFault::Memory);
+        }
+        Ok(self.graph.nodes().seen(path))
     }
 }

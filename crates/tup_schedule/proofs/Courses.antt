@@ -1,6 +1,7 @@
 -- A course goes on: what is kept of it after each event.
 use Rattle.std.proofs.Common.{◌≡◌, ℕ, ◌+◌, ◌<◌, ◌≤◌, ◌⊎◌, List, [], ◌∷◌, ◌++◌, length, Option, None, Some, refl, sym, ap, ◌∙◌, subst, inl, inr, arith}
 use Rattle.std.specs.Prelude.{Result, Ok, Err, slice_set}
+use Rattle.std.specs.FinMap as finite
 use Rattle.std.specs.Option.{option_map}
 use Rattle.std.proofs.lemmas.List.{length_push}
 use Rattle.tup_access.specs.declared.verdict.Verdict.{Verdict}
@@ -41,12 +42,13 @@ run_more plan state (one ∷ events) event run enabled = (run.0, run_more plan (
 -- what is kept once one more event happened
 pub course_more : (course : CourseState) (event : CoreEvent) (core : Core) (turn : Turn) (ends : List (Option CoreEvent)) (capacity : ℕ)
     → IsRun course.plan (first course) course.history → IsEnabled course.plan (now course) event
-    → IsCore course.plan core → state_of core ≡ after course.plan (now course) event → IsTurn course.plan (after course.plan (now course) event) turn
+    → IsCore course.plan core → finite.entries core.files.first.value ≡ course.files → state_of core ≡ after course.plan (now course) event → IsTurn course.plan (after course.plan (now course) event) turn
     → length ends ≡ 16 → ((seat : ℕ) → seat < 16 → entry ends seat ≡ end_at seat ((after course.plan (now course) event).seats seat))
     → length course.history + 1 + to_come course.plan (after course.plan (now course) event) ≤ capacity
     → IsCourse (with_events course (event ∷ [])) core turn ends capacity
-course_more course event core turn ends capacity run enabled is state turns many each room = record {
+course_more course event core turn ends capacity run enabled is by_files state turns many each room = record {
   is_core = is;
+  by_files = by_files;
   at_end = state ∙ sym end;
   is_turn = subst (λ (s : State). IsTurn course.plan s turn) (sym end) turns;
   run = run_more course.plan (first course) course.history event run enabled;

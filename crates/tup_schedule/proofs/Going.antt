@@ -1,6 +1,7 @@
 -- What is kept of a course after each of its calls, told over plain values: the core and the history that took one event.
 use Rattle.std.proofs.Common.{◌≡◌, ℕ, zero, suc, ◌+◌, ◌*◌, ◌<◌, ◌≤◌, true, false, List, [], ◌∷◌, ◌++◌, length, replicate, Option, None, Some, refl, sym, ap, ◌∙◌, subst, inl, inr, arith}
 use Rattle.std.specs.Prelude.{if◌then◌else◌, slice_set}
+use Rattle.std.specs.FinMap as finite
 use Rattle.std.specs.Option.{option_map}
 use Rattle.std.proofs.lemmas.List.{length-set, length-replicate, length_push}
 use Rattle.tup_path.specs.Name.{Names}
@@ -32,6 +33,7 @@ use Rattle.tup_schedule.proofs.Rooms.{claim_costs, finish_costs, stop_costs, ope
 pub record Moves (course : CourseState) (event : CoreEvent) (old new : Core) (items : List CoreEvent) : Type 0 where
   pub enabled : IsEnabled course.plan (now course) event
   pub is_core : IsCore course.plan new
+  pub first : new.files.first ≡ old.files.first
   pub state : state_of new ≡ after course.plan (state_of old) event
   pub told : items ≡ course.history ++ event ∷ []
 
@@ -51,6 +53,10 @@ module _ (course : CourseState) (old : Core) (old_turn : Turn) (old_ends : List 
 
   -- ---- one event
 
+  -- the core goes by the same files
+  files_stay : (before new : Core) → new.files.first ≡ before.files.first → finite.entries before.files.first.value ≡ course.files → finite.entries new.files.first.value ≡ course.files
+  files_stay before new first by_files = (λ i. finite.entries (first i).value) ∙ by_files
+
   -- what is kept, once a core and the history took it
   course_moved : (event : CoreEvent) (new : Core) (items : List CoreEvent) (turn : Turn) (ends : List (Option CoreEvent)) (capacity : ℕ)
       → Moves course event old new items → IsTurn course.plan (after course.plan (now course) event) turn
@@ -59,15 +65,16 @@ module _ (course : CourseState) (old : Core) (old_turn : Turn) (old_ends : List 
       → IsCourse (record course { history = items }) new turn ends capacity
   course_moved event new items turn ends capacity moves turns many each room =
       subst (λ (h : List CoreEvent). IsCourse (record course { history = h }) new turn ends capacity) (sym moves.told)
-      (course_more course event new turn ends capacity is.run moves.enabled moves.is_core
+      (course_more course event new turn ends capacity is.run moves.enabled moves.is_core (files_stay old new moves.first is.by_files)
       (moves.state ∙ ap (λ (s : State). after course.plan s event) is.at_end) turns many each room)
 
   -- nothing happened, though the core was touched and there may be more room
-  pub course_same : (new : Core) (items : List CoreEvent) (capacity : ℕ) → IsCore course.plan new → state_of new ≡ state_of old → items ≡ course.history → old_capacity ≤ capacity
+  pub course_same : (new : Core) (items : List CoreEvent) (capacity : ℕ) → IsCore course.plan new → new.files.first ≡ old.files.first → state_of new ≡ state_of old → items ≡ course.history → old_capacity ≤ capacity
       → IsCourse (record course { history = items }) new old_turn old_ends capacity
-  course_same new items capacity kept same unchanged grows =
+  course_same new items capacity kept first same unchanged grows =
       subst (λ (h : List CoreEvent). IsCourse (record course { history = h }) new old_turn old_ends capacity) (sym unchanged) (record {
         is_core = kept;
+        by_files = files_stay old new first is.by_files;
         at_end = same ∙ is.at_end;
         is_turn = is.is_turn;
         run = is.run;
@@ -240,10 +247,11 @@ bad_keeps course seat it given bad = record {
     none_at n here = ap (λ (m : ℕ). end_at n ((now course).seats m)) here ∙ ap (end_at n) it.it.runs.here ∙ ap (option_map (λ (denied : List ℕ × Verdict). Finish n denied.1 [])) it.granted
 
 -- ---- the beginning
-pub course_opens : (plan : Plan) (files : List (Names × Stamp)) (core : Core) (turn : Turn) (ends : List (Option CoreEvent)) (capacity : ℕ) → IsCore plan core → state_of core ≡ opening plan files
+pub course_opens : (plan : Plan) (files : List (Names × Stamp)) (core : Core) (turn : Turn) (ends : List (Option CoreEvent)) (capacity : ℕ) → IsCore plan core → finite.entries core.files.first.value ≡ files → state_of core ≡ opening plan files
     → IsTurn plan (state_of core) turn → ends ≡ replicate 16 None → 2 * length plan.reach + 1 ≤ capacity → IsCourse (record { plan = plan; files = files; history = [] }) core turn ends capacity
-course_opens plan files core turn ends capacity is state turns none room = record {
+course_opens plan files core turn ends capacity is by_files state turns none room = record {
   is_core = is;
+  by_files = by_files;
   at_end = state;
   is_turn = subst (λ (s : State). IsTurn plan s turn) state turns;
   run = tt;

@@ -29,24 +29,24 @@ module _ (course given : CourseState) (old : Core) (turn : Turn) (ends : List (O
   here : plan ≡ course.plan
   here = plan_here course given old turn ends capacity is view plan plan_is
 
-  moved : (event : CoreEvent) (new : Core) (items : List CoreEvent) → IsEnabled plan (now given) event → IsCore plan new
+  moved : (event : CoreEvent) (new : Core) (items : List CoreEvent) → IsEnabled plan (now given) event → IsCore plan new → new.files.first ≡ old.files.first
       → state_of new ≡ after plan (state_of old) event → items ≡ course.history ++ event ∷ [] → Moves course event old new items
   moved = moves_here course given old turn ends capacity is view plan plan_is
 
-  pub claim_kept : (seat rule : ℕ) (new : Core) (items : List CoreEvent) (new_turn : Turn) (grown : ℕ) → IsEnabled plan (now given) (Claim seat rule) → IsCore plan new
+  pub claim_kept : (seat rule : ℕ) (new : Core) (items : List CoreEvent) (new_turn : Turn) (grown : ℕ) → IsEnabled plan (now given) (Claim seat rule) → IsCore plan new → new.files.first ≡ old.files.first
       → state_of new ≡ after plan (state_of old) (Claim seat rule) → items ≡ course.history ++ Claim seat rule ∷ []
       → ((before after : State) → IsTurn plan before turn → Takes before rule after → IsTurn plan after new_turn) → capacity ≤ grown
       → IsCourse (record course { history = items }) new new_turn ends grown
-  claim_kept seat rule new items new_turn grown enabled kept state longer turns more =
-      course_claims course old turn ends capacity is seat rule new items new_turn grown (moved (Claim seat rule) new items enabled kept state longer)
+  claim_kept seat rule new items new_turn grown enabled kept first state longer turns more =
+      course_claims course old turn ends capacity is seat rule new items new_turn grown (moved (Claim seat rule) new items enabled kept first state longer)
       (subst (λ (p : Plan). (before after : State) → IsTurn p before turn → Takes before rule after → IsTurn p after new_turn) here turns) more
 
-  pub stop_kept : (seat : ℕ) (cause : Cause) (new : Core) (items : List CoreEvent) (grown : ℕ) → seat < 16 → (cause ≡ Bad → ⊥) → IsCore plan new
+  pub stop_kept : (seat : ℕ) (cause : Cause) (new : Core) (items : List CoreEvent) (grown : ℕ) → seat < 16 → (cause ≡ Bad → ⊥) → IsCore plan new → new.files.first ≡ old.files.first
       → state_of new ≡ after plan (state_of old) (Stop seat cause) → items ≡ course.history ++ Stop seat cause ∷ []
       → ((now given).seats seat ≡ None → (now given).stopped ≡ None) → capacity ≤ grown
       → IsCourse (record course { history = items }) new turn (slice_set ends seat None) grown
-  stop_kept seat cause new items grown within other kept state longer one more =
-      course_stops course old turn ends capacity is seat cause new items grown (moved (Stop seat cause) new items (within, other) kept state longer)
+  stop_kept seat cause new items grown within other kept first state longer one more =
+      course_stops course old turn ends capacity is seat cause new items grown (moved (Stop seat cause) new items (within, other) kept first state longer)
       (subst (λ (c : CourseState). (now c).seats seat ≡ None → (now c).stopped ≡ None) (sym view) one) more
 
   -- ---- a command that was denied an ask
@@ -78,12 +78,12 @@ module _ (course given : CourseState) (old : Core) (turn : Turn) (ends : List (O
   pub denied_fits : (seat : ℕ) → WasDenied given seat → length course.history < capacity
   denied_fits seat was = finish_fits course given old turn ends capacity is view seat was.it.running was.verdict [] was.it.runs.within was.it.runs.here
 
-  pub denied_kept : (seat : ℕ) (was : WasDenied given seat) (new : Core) (items : List CoreEvent) (grown : ℕ) → IsCore plan new
+  pub denied_kept : (seat : ℕ) (was : WasDenied given seat) (new : Core) (items : List CoreEvent) (grown : ℕ) → IsCore plan new → new.files.first ≡ old.files.first
       → state_of new ≡ after plan (state_of old) (Finish seat was.verdict []) → items ≡ course.history ++ Finish seat was.verdict [] ∷ [] → capacity ≤ grown
       → IsCourse (record course { history = items }) new turn (slice_set ends seat None) grown
   unfolding denied_here
-  denied_kept seat was new items grown kept state longer more =
-      course_denied course old turn ends capacity is seat (denied_here seat was) new items grown (moved (Finish seat was.verdict []) new items (denied_enabled seat was) kept state longer) more
+  denied_kept seat was new items grown kept first state longer more =
+      course_denied course old turn ends capacity is seat (denied_here seat was) new items grown (moved (Finish seat was.verdict []) new items (denied_enabled seat was) kept first state longer) more
 
   -- ---- a command that is Good
 
@@ -112,58 +112,58 @@ module _ (course given : CourseState) (old : Core) (turn : Turn) (ends : List (O
       subst (λ (n : ℕ). n < length plan.rules) good.rule
       (subst (λ (p : Plan). good.it.it.running.rule < length p.rules) (sym plan_is) (slice_get_within given.plan.rules good.it.it.running.rule good.it.it.rule good.it.it.runs.placed))
 
-  pub good_kept : (rule : ℕ) (event : CoreEvent) (good : IsGoodEnd given rule event) (new : Core) (items : List CoreEvent) (new_turn : Turn) (grown : ℕ) → IsCore plan new
+  pub good_kept : (rule : ℕ) (event : CoreEvent) (good : IsGoodEnd given rule event) (new : Core) (items : List CoreEvent) (new_turn : Turn) (grown : ℕ) → IsCore plan new → new.files.first ≡ old.files.first
       → state_of new ≡ after plan (state_of old) event → items ≡ course.history ++ event ∷ []
       → ((before : State) → IsTurn plan before turn → Frees plan before rule (state_of new) → IsTurn plan (state_of new) new_turn) → capacity ≤ grown
       → IsCourse (record course { history = items }) new new_turn ends grown
   unfolding goes_here
-  good_kept rule event good new items new_turn grown kept state longer turns more =
+  good_kept rule event good new items new_turn grown kept first state longer turns more =
       course_ends_well course old turn ends capacity is good.seat (goes_here good.seat good.it) good.files new items new_turn grown
       (moved (Finish good.seat Good good.files) new items
-      (subst (λ (e : CoreEvent). IsEnabled plan (now given) e) good.is (good_enabled rule event good)) kept
+      (subst (λ (e : CoreEvent). IsEnabled plan (now given) e) good.is (good_enabled rule event good)) kept first
       (state ∙ ap (after plan (state_of old)) good.is) (longer ∙ ap (λ (e : CoreEvent). course.history ++ e ∷ []) good.is))
       (subst (λ (p : Plan). (before : State) → IsTurn p before turn → Frees p before good.it.it.running.rule (state_of new) → IsTurn p (state_of new) new_turn) here
       (subst (λ (n : ℕ). (before : State) → IsTurn plan before turn → Frees plan before n (state_of new) → IsTurn plan (state_of new) new_turn) (sym good.rule) turns)) more
 
   -- ---- events for which memory may be wanted
 
-  pub event_kept : (event : CoreEvent) (new : Core) (items : List CoreEvent) (more grown : ℕ) → IsEnabled plan (now given) event → KeepsBeside given event → IsCore plan new
+  pub event_kept : (event : CoreEvent) (new : Core) (items : List CoreEvent) (more grown : ℕ) → IsEnabled plan (now given) event → KeepsBeside given event → IsCore plan new → new.files.first ≡ old.files.first
       → state_of new ≡ after plan (state_of old) event → items ≡ course.history ++ event ∷ [] → ((s : State) → to_come plan s ≤ more) → length items + more ≤ grown
       → IsCourse (record course { history = items }) new turn ends grown
-  event_kept event new items more grown enabled keeps kept state longer few room =
-      course_goes_on course old turn ends capacity is event new items more grown (moved event new items enabled kept state longer)
+  event_kept event new items more grown enabled keeps kept first state longer few room =
+      course_goes_on course old turn ends capacity is event new items more grown (moved event new items enabled kept first state longer)
       (subst (λ (c : CourseState). KeepsBeside c event) (sym view) keeps)
       (subst (λ (p : Plan). (s : State) → to_come p s ≤ more) here few (after course.plan (now course) event)) room
 
-  pub deny_kept : (seat : ℕ) (text : List ℕ) (verdict : Verdict) (new : Core) (items : List CoreEvent) (more grown : ℕ) → IsEnabled plan (now given) (Deny seat text verdict) → IsCore plan new
+  pub deny_kept : (seat : ℕ) (text : List ℕ) (verdict : Verdict) (new : Core) (items : List CoreEvent) (more grown : ℕ) → IsEnabled plan (now given) (Deny seat text verdict) → IsCore plan new → new.files.first ≡ old.files.first
       → state_of new ≡ after plan (state_of old) (Deny seat text verdict) → items ≡ course.history ++ Deny seat text verdict ∷ [] → ((s : State) → to_come plan s ≤ more) → length items + more ≤ grown
       → IsCourse (record course { history = items }) new turn (slice_set ends seat (Some (Finish seat verdict []))) grown
-  deny_kept seat text verdict new items more grown enabled kept state longer few room =
-      course_denies course old turn ends capacity is seat text verdict new items more grown (moved (Deny seat text verdict) new items enabled kept state longer)
+  deny_kept seat text verdict new items more grown enabled kept first state longer few room =
+      course_denies course old turn ends capacity is seat text verdict new items more grown (moved (Deny seat text verdict) new items enabled kept first state longer)
       (subst (λ (p : Plan). (s : State) → to_come p s ≤ more) here few (after course.plan (now course) (Deny seat text verdict))) room
 
   -- the same of an event and an end that were made
   pub deny_done : (seat : ℕ) (text : List ℕ) (verdict : Verdict) (event end : CoreEvent) (new : Core) (items : List CoreEvent) (more grown : ℕ) → event ≡ Deny seat text verdict → end ≡ Finish seat verdict []
-      → IsEnabled plan (now given) (Deny seat text verdict) → IsCore plan new
+      → IsEnabled plan (now given) (Deny seat text verdict) → IsCore plan new → new.files.first ≡ old.files.first
       → state_of new ≡ after plan (state_of old) event → items ≡ course.history ++ event ∷ [] → ((s : State) → to_come plan s ≤ more) → length items + more ≤ grown
       → IsCourse (record course { history = items }) new turn (slice_set ends seat (Some end)) grown
-  deny_done seat text verdict event end new items more grown event_is end_is enabled kept state longer few room =
+  deny_done seat text verdict event end new items more grown event_is end_is enabled kept first state longer few room =
       subst (λ (e : CoreEvent). IsCourse (record course { history = items }) new turn (slice_set ends seat (Some e)) grown) (sym end_is)
-      (deny_kept seat text verdict new items more grown enabled kept (state ∙ ap (after plan (state_of old)) event_is) (longer ∙ ap (λ (e : CoreEvent). course.history ++ e ∷ []) event_is) few room)
+      (deny_kept seat text verdict new items more grown enabled kept first (state ∙ ap (after plan (state_of old)) event_is) (longer ∙ ap (λ (e : CoreEvent). course.history ++ e ∷ []) event_is) few room)
 
   -- nothing happened
-  pub same_kept : (new : Core) (items : List CoreEvent) (grown : ℕ) → IsCore plan new → state_of new ≡ state_of old → items ≡ course.history → capacity ≤ grown
+  pub same_kept : (new : Core) (items : List CoreEvent) (grown : ℕ) → IsCore plan new → new.files.first ≡ old.files.first → state_of new ≡ state_of old → items ≡ course.history → capacity ≤ grown
       → IsCourse (record course { history = items }) new turn ends grown
-  same_kept new items grown kept same unchanged more =
-      course_same course old turn ends capacity is new items grown (subst (λ (p : Plan). IsCore p new) here kept) same unchanged more
+  same_kept new items grown kept first same unchanged more =
+      course_same course old turn ends capacity is new items grown (subst (λ (p : Plan). IsCore p new) here kept) first same unchanged more
 
   -- it was taken, or nothing happened
-  pub tried_kept : {E : Type 0} (event : CoreEvent) (new : Core) (items : List CoreEvent) (more grown : ℕ) (result : Result (Unit {0}) E) → IsEnabled plan (now given) event → KeepsBeside given event → IsCore plan new
+  pub tried_kept : {E : Type 0} (event : CoreEvent) (new : Core) (items : List CoreEvent) (more grown : ℕ) (result : Result (Unit {0}) E) → IsEnabled plan (now given) event → KeepsBeside given event → IsCore plan new → new.files.first ≡ old.files.first
       → OnOk result (state_of new ≡ after plan (state_of old) event) → OnOk result (items ≡ course.history ++ event ∷ []) → ((s : State) → to_come plan s ≤ more) → OnOk result (length items + more ≤ grown)
       → OnErr result (state_of new ≡ state_of old) → OnErr result (items ≡ course.history) → capacity ≤ grown
       → IsCourse (record course { history = items }) new turn ends grown
-  tried_kept event new items more grown (Ok done) enabled keeps kept state longer few room same unchanged no_less = event_kept event new items more grown enabled keeps kept state longer few room
-  tried_kept event new items more grown (Err fault) enabled keeps kept state longer few room same unchanged no_less = same_kept new items grown kept same unchanged no_less
+  tried_kept event new items more grown (Ok done) enabled keeps kept first state longer few room same unchanged no_less = event_kept event new items more grown enabled keeps kept first state longer few room
+  tried_kept event new items more grown (Err fault) enabled keeps kept first state longer few room same unchanged no_less = same_kept new items grown kept first same unchanged no_less
 
 -- what callers see of a course that an event was told, or not
 pub seen_tried : {E : Type 0} (course given : CourseState) (event : CoreEvent) (items : List CoreEvent) (result : Result (Unit {0}) E) → course ≡ given → OnOk result (items ≡ course.history ++ event ∷ [])

@@ -62,11 +62,12 @@ module _ (course given : CourseState) (old : Core) (turn : Turn) (ends : List (O
         subst (λ (c : CourseState). IsEnabled c.plan (now c) event) (sym view) (subst (λ (p : Plan). IsEnabled p (now given) event) plan_is enabled)
 
     -- an event that was taken
-    pub moves_here : (event : CoreEvent) (new : Core) (items : List CoreEvent) → IsEnabled plan (now given) event → IsCore plan new
+    pub moves_here : (event : CoreEvent) (new : Core) (items : List CoreEvent) → IsEnabled plan (now given) event → IsCore plan new → new.files.first ≡ old.files.first
         → state_of new ≡ after plan (state_of old) event → items ≡ course.history ++ event ∷ [] → Moves course event old new items
-    moves_here event new items enabled kept state grown = record {
+    moves_here event new items enabled kept first state grown = record {
       enabled = enabled_here event enabled;
       is_core = subst (λ (p : Plan). IsCore p new) plan_here kept;
+      first = first;
       state = state ∙ ap (λ (p : Plan). after p (state_of old) event) plan_here;
       told = grown;
     }

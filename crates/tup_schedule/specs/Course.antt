@@ -1,5 +1,6 @@
 -- The core of a plan, and all that happened to it, as contracts see that (own).
 use Rattle.std.specs.Prelude.{◌≡◌, ◌⊎◌, ℕ, ◌+◌, ◌≤◌, ◌<◌, List, [], ◌∷◌, ◌++◌, length, Option, None, Some, IsSome, refl, slice_get, option_map, ◌-◌}
+use Rattle.std.specs.FinMap as finite
 use Rattle.std.specs.Coded.{Coded, code_by, coded×, coded_list, coded_ℕ}
 use Rattle.tup_path.specs.Name.{Names}
 use Rattle.tup_stamp.specs.contracts.Stamp as of_stamp
@@ -54,9 +55,10 @@ abbrev pub end_at : ℕ → Option Running → Option CoreEvent
 end_at seat None = None
 end_at seat (Some running) = option_map (λ (denied : List ℕ × Verdict). Finish seat denied.1 []) running.denied
 
--- what is kept of a course: a core that stands at its end, which rules may be claimed then, for each seat how its command is to end, and room
+-- what is kept of a course: a core that goes by the files of its opening and stands at its end, which rules may be claimed then, for each seat how its command is to end, and room
 pub record IsCourse (course : CourseState) (core : Core) (turn : Turn) (ends : List (Option CoreEvent)) (capacity : ℕ) : Type 0 where
   pub is_core : IsCore course.plan core
+  pub by_files : finite.entries core.files.first.value ≡ course.files
   pub at_end : state_of core ≡ now course
   pub is_turn : IsTurn course.plan (now course) turn
   pub run : IsRun course.plan (first course) course.history

@@ -1,5 +1,6 @@
 //! What happened on a board, and the core at the end of it.
 ghost use Rattle.std.specs.Prelude.{◌≡◌, ◌<◌, ◌∷◌, [], None, Some, Ok, IfOk, OnOk, OnErr, IsTrue, IsSome, ◌↔◌, ◌≢◌, ◌≤◌, ◌^◌, ℕ, length, replicate, slice_set};
+ghost use Rattle.std.specs.FinMap as finite;
 ghost use Rattle.std.specs.Option.{option_copied};
 ghost use Rattle.tup_access.specs.Access.{access as access_of};
 ghost use Rattle.tup_access.specs.declared.verdict.Verdict.TheVariants.{Good};
@@ -18,8 +19,8 @@ use std::marker::Model;
 use std::mem;
 use std::snapshot::Snapshot;
 use tup_access::{Access, Verdict};
-use tup_core::{Cause, Core, CoreEvent, Plan, Running, Stamps};
-use tup_path::{Items, Path, Text};
+use tup_core::{Cause, Core, CoreEvent, Plan, Running};
+use tup_path::{ByPath, Items, Path, Text};
 use tup_stamp::Stamp;
 
 /// How many seats there are.
@@ -40,35 +41,41 @@ pub struct Course {
     /// For each seat whose command was denied an ask, how it ends.
     ends: Vec<Option<CoreEvent>>,
     plan: Snapshot<Plan>,
-    files: Snapshot<Stamps>,
+    files: Snapshot<ByPath<Stamp>>,
 }
 
 impl Model for Course {
     ghost use Rattle.std.specs.Prelude.{vec_capacity};
+    ghost use Rattle.std.specs.FinMap as finite;
     ghost use Rattle.tup_schedule.specs.Course.{CourseState, IsCourse, course_code};
 
     ghost Value = { CourseState };
 
     ghost coded = { course_code };
 
-    ghost view = { λ c.
-        record { plan = c.plan.value; files = c.files.value; history = c.history.items } };
+    ghost view = { λ c. record {
+      plan = c.plan.value;
+      files = finite.entries c.files.value;
+      history = c.history.items;
+    } };
 
-    ghost invariant = { λ c. IsCourse
-        (record { plan = c.plan.value; files = c.files.value; history = c.history.items })
+    ghost invariant = { λ c. IsCourse (record {
+      plan = c.plan.value;
+      files = finite.entries c.files.value;
+      history = c.history.items;
+    })
         c.core c.turn c.ends.items (vec_capacity c.history) };
 }
 
 impl Course {
     ghost use Rattle.tup_schedule.specs.Course.{first, now, with_events, NoneReady, Claims, IsStopped, Stops, RunsRule, GoesOn, WasDenied, EndsDenied, EndsWithFinish, IsLastVerdict, IsGoodEnd, KeepsBeside};
 
-    /// The opening of a plan over files with these stamps.
-    pub fn new(alloc: Global, plan: &Plan, files: Stamps) -> Result<Course, AllocError>
+    /// The opening of a plan over files with these stamps. None of them is copied: they stay with the caller.
+    pub fn new(alloc: Global, plan: &Plan, files: &ByPath<Stamp>) -> Result<Course, AllocError>
         requires { IsInRange plan.now }
         ensures { IfOk result (λ course. course
-            ≡ record { plan = plan.now; files = files; history = [] }) }
+            ≡ record { plan = plan.now; files = finite.entries files.now; history = [] }) }
     {
-        let first_files = Snapshot::of(&files);
         let core = opened(alloc, plan, files)?;
         let turn = Turn::new(alloc, plan, &core)?;
         Ok(Course {
@@ -78,7 +85,7 @@ impl Course {
             history: Vec::with_capacity(alloc, 2 * plan.reach.as_slice().len() + 1)?,
             ends: no_ends(alloc)?,
             plan: Snapshot::of(plan),
-            files: first_files,
+            files: Snapshot::of(files),
         })
     }
 
@@ -107,11 +114,12 @@ impl Course {
         self.core.running(seat)
     }
 
-    /// The stamp of the file at a path, if there is one.
-    pub fn file(&self, path: &Path) -> Option<Stamp>
+    /// The stamp of the file at a path that had this one at the opening, if there is one.
+    pub fn file(&self, path: &Path, seen: Option<Stamp>) -> Option<Stamp>
+        requires { seen ≡ (first self.now).files path.now }
         ensures { result ≡ (now self.now).files path.now }
     {
-        self.core.file(path)
+        self.core.file(path, seen)
     }
 
     /// Why the first stop came, if one did.

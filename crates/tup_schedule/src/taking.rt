@@ -1,17 +1,23 @@
 //! How a core and its history take events.
 ghost use Rattle.std.specs.Prelude.{◌≡◌, ◌++◌, ◌∷◌, ◌+◌, ◌^◌, ◌<◌, ◌≤◌, [], IfOk, OnOk, OnErr, length, vec_len, vec_capacity};
+ghost use Rattle.std.specs.FinMap as finite;
+ghost use Rattle.tup_core.specs.Machine as machine;
 ghost use Rattle.tup_core.specs.Machine.{state_of, IsCore, TakesMemory};
 ghost use Rattle.tup_core.specs.Sound.{IsInRange};
 ghost use Rattle.tup_core.specs.Step.{IsEnabled, opening, after};
 
 use std::alloc::{AllocError, Global};
-use tup_core::{Core, CoreEvent, Plan, Stamps};
+use tup_core::{Core, CoreEvent, Plan};
+use tup_path::ByPath;
+use tup_stamp::Stamp;
 
 /// The core of a plan at its opening, over files with these stamps.
-pub(crate) fn opened(alloc: Global, plan: &Plan, files: Stamps) -> Result<Core, AllocError>
+pub(crate) fn opened(alloc: Global, plan: &Plan, files: &ByPath<Stamp>) -> Result<Core, AllocError>
     requires { IsInRange plan.now }
     ensures core { IfOk result (IsCore plan.now) }
-    ensures state { IfOk result (λ core. state_of core ≡ opening plan.now files) }
+    ensures first { IfOk result (λ core. core.files.first.value ≡ files.now) }
+    ensures state { IfOk result (λ core. state_of core
+        ≡ opening plan.now (finite.entries files.now)) }
 {
     match Core::new(alloc, plan, files) {
         Ok(core) => Ok(core),
@@ -32,11 +38,12 @@ pub(crate) fn take(
     requires memory { TakesMemory (state_of core.old) event → ⊥ }
     requires room { vec_len history.old < vec_capacity history.old }
     ensures core { IsCore plan.now core.new }
+    ensures first { core.new.files.first ≡ core.old.files.first }
     ensures state { state_of core.new ≡ after plan.now (state_of core.old) event }
     ensures history { history.new.items ≡ history.old.items ++ event ∷ [] }
     ensures capacity { vec_capacity history.old ≤ vec_capacity history.new }
 {
-    let _ = core.step(alloc, plan, &event);
+    let _ = core.step(alloc, plan, &event, answered(&event));
     let _ = history.push(event);
 }
 
@@ -53,6 +60,7 @@ pub(crate) fn try_take(
     requires enabled { IsEnabled plan.now (state_of core.old) event }
     requires few { more < 2 ^ 63 }
     ensures core { IsCore plan.now core.new }
+    ensures first { core.new.files.first ≡ core.old.files.first }
     ensures state { OnOk result (state_of core.new ≡ after plan.now (state_of core.old) event) }
     ensures history { OnOk result (history.new.items ≡ history.old.items ++ event ∷ []) }
     ensures room { OnOk result (length history.new.items + more ≤ vec_capacity history.new) }
@@ -61,11 +69,21 @@ pub(crate) fn try_take(
     ensures no_less { vec_capacity history.old ≤ vec_capacity history.new }
 {
     history.reserve(more + 1)?;
-    match core.step(alloc, plan, &event) {
+    match core.step(alloc, plan, &event, answered(&event)) {
         Ok(()) => {
             let _ = history.push(event);
             Ok(())
         }
         Err(_) => Err(AllocError),
+    }
+}
+
+/// What a command is answered by an event that is an ask.
+fn answered(event: &CoreEvent) -> Option<Stamp>
+    ensures { result ≡ machine.answered event.now }
+{
+    match event {
+        CoreEvent::Ask { answer, .. } => *answer,
+        _ => None,
     }
 }

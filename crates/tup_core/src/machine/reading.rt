@@ -5,6 +5,7 @@ ghost use Rattle.tup_rule.specs.declared.rule.Rule.{Rule as RuleValue};
 ghost use Rattle.tup_access.specs.Access.{access as access_of};
 ghost use Rattle.tup_clean.specs.Queue.{count_of};
 ghost use Rattle.tup_core.specs.Waiting.{times};
+ghost use Rattle.tup_core.specs.Files.{IsSeenAt};
 ghost use Rattle.tup_core.specs.Machine.{state_of, IsCore};
 ghost use Rattle.tup_core.specs.Reading.{open_test, pass_test};
 
@@ -64,11 +65,12 @@ impl Core {
         true
     }
 
-    /// The stamp of the file at a path, if there is one.
-    pub fn file(&self, path: &Path) -> Option<Stamp>
+    /// The stamp of the file at a path that had this one at the opening, if there is one.
+    pub fn file(&self, path: &Path, seen: Option<Stamp>) -> Option<Stamp>
+        requires { IsSeenAt self.now.files path.now seen }
         ensures { result ≡ (state_of self.now).files path.now }
     {
-        self.files.get(path)
+        self.files.get(path, seen)
     }
 
     /// Why the first stop came, if one did.

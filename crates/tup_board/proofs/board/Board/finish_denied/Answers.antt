@@ -1,5 +1,6 @@
 use Rattle.tup_schedule.specs.Course.{EndsDenied, WasDenied}
 use Rattle.tup_board.proofs.Kept.{plan_here, to_course, denied_kept, both_seen, rest_seen}
+use Rattle.tup_board.proofs.Stamps.{has_on}
 use Rattle.tup_board.proofs.board.Board.finish_denied.Goals as goal
 
 pub finish_denied-requires-clause-plan : goal.finish_denied-requires-clause-plan
@@ -11,7 +12,7 @@ finish_denied-requires-clause-seat g c = to_course g.S.Site g.R.Runner _ _ _ _ _
 pub invariant_of-self : goal.invariant_of-self
 invariant_of-self g c =
     let kept = denied_kept g.S.Site g.R.Runner _ _ _ _ _ _ _ c.self.invariant.0 c.self.invariant.1 c.self.view_is c.args.seat c.finish_denied.new.self c.requires.denied c.finish_denied.ensures in
-    (kept.files, kept.sound, c.self.invariant.2)
+    (kept.files, kept.sound, c.self.invariant.2, has_on _ _ _ _ kept.stamps c.self.invariant.3)
 
 pub returns-clause-ends : goal.returns-clause-ends
 returns-clause-ends g c =

@@ -5,9 +5,11 @@ use Rattle.tup_graph.specs.Opening.{IsGraphOf}
 use Rattle.tup_rule_outputs.specs.declared.fault.BoardFault.{BoardFault}
 use Rattle.tup_runner.specs.Report.{asks_of, ended_of}
 use Rattle.tup_board.specs.Calls.{Ends}
+use Rattle.tup_board.proofs.Answering.{seats_seen}
 use Rattle.tup_board.proofs.Finished.{can_make_seen, early_seen, end_here, board_more, end_of_course, made_kept_here, made_seen, more_kept, refused_kept_here, refused_seen, refused_true_here}
 use Rattle.tup_board.proofs.Judging.{outputs_at}
 use Rattle.tup_board.proofs.Keeping.{kept_on, makes_known}
+use Rattle.tup_board.proofs.Stamps.{has_made, has_refused}
 use Rattle.tup_board.proofs.board.Board.finish_well.Goals as goal
 
 pub good_end-requires-clause-runs : goal.good_end-requires-clause-runs
@@ -46,7 +48,14 @@ invariant_of-self g c =
     c.args.files.now c.requires.judged c.in_ok-end.end.rule c.in_ok-end.end.run c.in_ok-end.event c.in_ok-end.ensures.end
     (λ fresh. subst (IsGraphOf (entries_in c.self.inside.ground.graph.table)) c.nodes.ensures.value (c.nodes.ensures.graph fresh)) site_laws.present site_laws.earlier site_laws.knows_tree
     c.make.result c.make.new.self c.make.ensures.makes c.make.ensures.cause _ c.in-Ok.is) in
-    (kept.0, kept.1, kept_on g.S.Site _ _ _ (makes_known g.S.Site _ _ _ _ _ _ c.make.ensures.makes) c.self.invariant.2)
+    let good = c.in_ok-end.ensures.end in
+    let here = seats_seen g.S.Site g.R.Runner _ _ _ _ _ _ _ c.self.invariant.0 c.self.invariant.1 c.self.view_is c.args.seat ∙ good.kept.runs.here in (
+      kept.0,
+      kept.1,
+      kept_on g.S.Site _ _ _ (makes_known g.S.Site _ _ _ _ _ _ c.make.ensures.makes) c.self.invariant.2,
+      has_made g.S.Site c.in_ok-end.end.rule c.in_ok-end.end.run c.args.files.now c.self.inside.ground c.make.new.self c.make.result c.make.ensures.makes _ c.in-Ok.is c.self.inside.course c.finish_well.new.self c.args.seat good.kept.running here
+          c.in_ok-end.event good.event_is c.finish_well.ensures c.self.invariant.3,
+    )
 
 pub returns-in-Ok : goal.returns-in-Ok
 returns-in-Ok g c =
@@ -67,6 +76,7 @@ invariant_of-self-in-Err g c =
           (λ fresh. subst (IsGraphOf (entries_in c.self.inside.ground.graph.table)) c.nodes.ensures.value (c.nodes.ensures.graph fresh)) site_laws.present site_laws.earlier site_laws.knows_tree
           c.make.result c.make.new.self c.make.ensures.makes c.make.ensures.cause c.in-Err.fault c.in-Err.is,
       kept_on g.S.Site _ _ _ (makes_known g.S.Site _ _ _ _ _ _ c.make.ensures.makes) c.self.invariant.2,
+      has_refused g.S.Site c.in_ok-end.end.rule c.in_ok-end.end.run c.args.files.now c.self.inside.ground c.make.new.self c.make.result c.make.ensures.makes c.in-Err.fault c.in-Err.is c.self.inside.course c.self.invariant.3,
     )
 
 pub fail-requires-clause-true_cause : goal.fail-requires-clause-true_cause

@@ -6,19 +6,25 @@ use Rattle.tup_rule_outputs.specs.Fault.{CountsFaults}
 use Rattle.tup_rule_outputs.specs.Ground.{NamesLength, OnlyLarge}
 use Rattle.tup_board.specs.Board.{BoardState}
 use Rattle.tup_board.specs.Calls.{Asks}
-use Rattle.tup_board.proofs.Answering.{asks_after, fault_after, fault_true, read_sound, told_after}
+use Rattle.tup_board.proofs.Answering.{asks_after, fault_after, fault_true, read_sound, stamp_after, told_after}
 use Rattle.tup_board.proofs.Keeping.{kept_same}
+use Rattle.tup_board.proofs.Stamps.{has_read}
 use Rattle.tup_board.proofs.desk.BoardDesk.read.Goals as goal
 
 pub invariant_of-self : goal.invariant_of-self
 invariant_of-self g c =
     let site_laws = g.met.S.Site in
-    (c.self.invariant.0, read_sound g.S.Site g.R.Runner _ _ _ _ _ _ _ c.self.invariant.0 c.self.invariant.1 c.self.view_is c.get.new.self c.get.ensures.reads site_laws.earlier c.get.ensures.cause.later, kept_same g.S.Site _ _ _ c.get.ensures.reads.known c.self.invariant.2)
+    (c.self.invariant.0, read_sound g.S.Site g.R.Runner _ _ _ _ _ _ _ c.self.invariant.0 c.self.invariant.1 c.self.view_is c.get.new.self c.get.ensures.reads site_laws.earlier c.get.ensures.cause.later, kept_same g.S.Site _ _ _ c.get.ensures.reads.known c.self.invariant.2, has_read g.S.Site c.self.inside.ground c.get.new.self c.self.inside.course c.get.ensures.reads c.self.invariant.3)
 
 pub tell_read-requires-clause-asks_for : goal.tell_read-requires-clause-asks_for
 tell_read-requires-clause-asks_for g c =
     let site_laws = g.met.S.Site in
     asks_after g.S.Site g.R.Runner _ _ _ _ _ _ _ c.self.invariant.0 c.self.invariant.1 c.self.view_is c.get.new.self c.get.ensures.reads site_laws.earlier c.get.ensures.cause.later c.args.seat c.args.text.now c.args.path.now c.requires.asks_for
+
+pub tell_read-requires-clause-seen : goal.tell_read-requires-clause-seen
+tell_read-requires-clause-seen g c =
+    let site_laws = g.met.S.Site in
+    stamp_after g.S.Site g.R.Runner _ _ _ _ _ _ _ c.self.invariant.0 c.self.invariant.1 c.self.view_is c.get.new.self c.get.ensures.reads site_laws.earlier c.get.ensures.cause.later c.args.path.now c.args.seen c.requires.seen
 
 pub returns-in-Ok : goal.returns-in-Ok
 returns-in-Ok g c =
@@ -29,7 +35,7 @@ returns-in-Ok g c =
 pub invariant_of-self-in-Err : goal.invariant_of-self-in-Err
 invariant_of-self-in-Err g c =
     let site_laws = g.met.S.Site in
-    (c.self.invariant.0, read_sound g.S.Site g.R.Runner _ _ _ _ _ _ _ c.self.invariant.0 c.self.invariant.1 c.self.view_is c.get.new.self c.get.ensures.reads site_laws.earlier c.get.ensures.cause.later, kept_same g.S.Site _ _ _ c.get.ensures.reads.known c.self.invariant.2)
+    (c.self.invariant.0, read_sound g.S.Site g.R.Runner _ _ _ _ _ _ _ c.self.invariant.0 c.self.invariant.1 c.self.view_is c.get.new.self c.get.ensures.reads site_laws.earlier c.get.ensures.cause.later, kept_same g.S.Site _ _ _ c.get.ensures.reads.known c.self.invariant.2, has_read g.S.Site c.self.inside.ground c.get.new.self c.self.inside.course c.get.ensures.reads c.self.invariant.3)
 
 pub fail-requires-clause-true_cause : goal.fail-requires-clause-true_cause
 fail-requires-clause-true_cause g c =

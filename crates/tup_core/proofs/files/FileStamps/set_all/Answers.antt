@@ -11,6 +11,7 @@ set-requires c = c.loop-path.invariant.room _ ∙ c.requires _ (written_among c.
 
 pub loop-path-preserved : goal.loop-path-preserved
 loop-path-preserved c = record {
+  first = c.set.ensures.first ∙ c.loop-path.invariant.first;
   stamps = λ q.
       c.set.ensures.stamps q
       ∙ ap (λ (before : Option Stamp). if same_path q c.loop-path-item.result.0 then Some c.loop-path-item.result.1 else before) (c.loop-path.invariant.stamps q)

@@ -22,6 +22,6 @@ set_all-requires c = λ path found.
 pub returns : goal.returns
 returns c =
     finished_well c.args.plan.now c.args.self.now (record c.args.self.now { seats = with_item c.args.self.now.seats c.args.seat None }) c.complete.new.self (record c.complete.new.self { files = c.set_all.new.self }) c.args.seat c.args.at c.args.writes.now
-    c.requires.core c.requires.ends refl c.complete.ensures
+    c.requires.core c.requires.ends refl c.complete.ensures c.set_all.ensures.first
     (λ path. c.set_all.ensures.stamps path ∙ ap (λ (l : List (Names × Stamp)). with_stamps (stamp_in c.complete.new.self.files) l path) c.as_slice.ensures)
     c.set_all.ensures.room

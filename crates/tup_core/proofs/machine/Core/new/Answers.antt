@@ -1,14 +1,15 @@
-use Rattle.std.proofs.Common.{Bool, List, Option, None, length, replicate, false, ◌∙◌, ap, subst, refl}
+use Rattle.std.proofs.Common.{Bool, List, Option, None, length, replicate, false, ◌∙◌, ap, subst, sym, refl}
+use Rattle.std.specs.FinMap as finite
 use Rattle.tup_rule.specs.declared.rule.Rule.{Rule}
 use Rattle.tup_access.specs.Generated.{IsGenerated}
 use Rattle.tup_access.specs.Inputs.{AreInputsOfAll}
 use Rattle.tup_access.specs.declared.verdict.Verdict.{Verdict}
 use Rattle.tup_core.specs.Waiting.{flag, IsWaiting}
-use Rattle.tup_core.specs.Files.{HasRoomFor}
+use Rattle.tup_core.proofs.Entries.{stamps_of_entries}
 use Rattle.tup_core.proofs.MachineLaws.{IsOpening, opened_core, opened_state}
 use Rattle.tup_core.proofs.machine.Core.new.Goals as goal
 
-made : (c : goal.In_ok-nothing-2) → IsOpening c.args.plan.now c.args.files (record {
+made : (c : goal.In_ok-nothing-2) → IsOpening c.args.plan.now (finite.entries c.args.files.now) (record {
   generated = c.in_ok-generated.field-0;
   inputs = c.in_ok-inputs_of_all.field-0;
   waiting = c.in_ok-new.field-0;
@@ -30,15 +31,13 @@ made c = record {
   bad = c.in_ok-nothing-2.ensures ∙ ap (λ (r : List Rule). replicate (length r) (let none : Option Verdict = None in none)) c.as_slice-rules.ensures;
   generated = subst (λ (r : List Rule). IsGenerated r c.in_ok-generated.field-0) c.as_slice-rules.ensures c.in_ok-generated.ensures;
   inputs = subst (λ (r : List Rule). AreInputsOfAll r c.in_ok-inputs_of_all.field-0.items) c.as_slice-rules.ensures c.in_ok-inputs_of_all.ensures;
-  files_in = c.in_ok-new-2.ensures.stamps;
-  room =
-      subst (λ (r : List Rule). HasRoomFor r (flag c.in_ok-pending.pending.items) c.in_ok-new-2.field-0) c.as_slice-rules.ensures
-      (subst (λ (l : List Bool). HasRoomFor c.as_slice-rules.result.now (flag l) c.in_ok-new-2.field-0) c.deref-3.ensures.value c.in_ok-new-2.ensures.room);
+  files_in = λ path. c.in_ok-new-2.ensures.stamps path ∙ sym (stamps_of_entries c.args.files.now path);
+  room = c.in_ok-new-2.ensures.room;
   going = refl;
 }
 
 pub returns-clause-core : goal.returns-clause-core
-returns-clause-core c = opened_core c.args.plan.now c.args.files _ (made c)
+returns-clause-core c = opened_core c.args.plan.now (finite.entries c.args.files.now) _ (made c)
 
 pub returns-clause-state : goal.returns-clause-state
-returns-clause-state c = opened_state c.args.plan.now c.args.files _ (made c)
+returns-clause-state c = opened_state c.args.plan.now (finite.entries c.args.files.now) _ (made c)

@@ -18,13 +18,13 @@ index_mut-requires c = let many = c.self.invariant.many in let within = c.requir
 
 pub invariant_of-self : goal.invariant_of-self
 invariant_of-self c =
-    same_kept _ _ _ _ _ _ c.self.invariant c.self.view_is c.args.plan.now c.requires.plan c.try_take.new.core c.try_take.new.history.items _ c.try_take.ensures.core c.in_err-try_take.ensures.unchanged c.in_err-try_take.ensures.as_before
+    same_kept _ _ _ _ _ _ c.self.invariant c.self.view_is c.args.plan.now c.requires.plan c.try_take.new.core c.try_take.new.history.items _ c.try_take.ensures.core c.try_take.ensures.first c.in_err-try_take.ensures.unchanged c.in_err-try_take.ensures.as_before
     c.try_take.ensures.no_less
 
 pub invariant_of-self-2 : goal.invariant_of-self-2
 invariant_of-self-2 c =
     deny_done _ _ _ _ _ _ c.self.invariant c.self.view_is c.args.plan.now c.requires.plan c.args.seat c.args.text.now c.args.verdict.now c.in_ok-event.event c.in_ok-end.end c.try_take.new.core c.try_take.new.history.items c.most_to_come.result _ c.in_ok-event.ensures c.in_ok-end.ensures
-    c.requires.enabled c.try_take.ensures.core c.in_ok-try_take.ensures.state c.in_ok-try_take.ensures.history c.most_to_come.ensures.many c.in_ok-try_take.ensures.room
+    c.requires.enabled c.try_take.ensures.core c.try_take.ensures.first c.in_ok-try_take.ensures.state c.in_ok-try_take.ensures.history c.most_to_come.ensures.many c.in_ok-try_take.ensures.room
 
 pub returns-clause-ok : goal.returns-clause-ok
 returns-clause-ok c = seen_more _ _ (Deny c.args.seat c.args.text.now c.args.verdict.now) _ c.self.view_is (c.in_ok-try_take.ensures.history ∙ ap (λ (e : CoreEvent). c.self.inside.history.items ++ e ∷ []) c.in_ok-event.ensures)

@@ -20,7 +20,7 @@ take-requires-clause-room c =
 
 pub invariant_of-self : goal.invariant_of-self
 invariant_of-self c =
-    stop_kept _ _ _ _ _ _ c.self.invariant c.self.view_is c.args.plan.now c.requires.plan c.args.seat c.args.cause c.take.new.core c.take.new.history.items _ c.requires.seat c.requires.cause c.take.ensures.core c.take.ensures.state c.take.ensures.history
+    stop_kept _ _ _ _ _ _ c.self.invariant c.self.view_is c.args.plan.now c.requires.plan c.args.seat c.args.cause c.take.new.core c.take.new.history.items _ c.requires.seat c.requires.cause c.take.ensures.core c.take.ensures.first c.take.ensures.state c.take.ensures.history
     c.requires.one c.take.ensures.capacity
 
 pub returns : goal.returns

@@ -1,5 +1,6 @@
 use Rattle.std.proofs.Common.{◌≡◌, ℕ, List, [], ◌∷◌, ◌++◌, length, take, drop, Option, None, Some, sym, ap, ◌∙◌, subst, arith}
 use Rattle.std.specs.Prelude.{slice_set, vec_capacity}
+use Rattle.std.specs.FinMap as finite
 use Rattle.std.proofs.lemmas.List.{append-nil, drop_all, take_all, length-set}
 use Rattle.std.proofs.lemmas.Option.{same_Some}
 use Rattle.tup_core.specs.declared.event.CoreEvent.{CoreEvent}
@@ -53,8 +54,8 @@ invariant_of-self c =
     let end_is : c.in-Some.end ≡ Finish c.args.seat was.verdict [] = same_Some _ _ (sym c.in-Some.is ∙ c.taken_end.ensures.end ∙ ap (λ (l : List (Option CoreEvent)). entry l c.args.seat) c.deref_mut.ensures.value ∙ denied_ready _ _ _ _ _ _ c.self.invariant c.self.view_is c.args.plan.now c.requires.plan c.args.seat was) in
     let left : c.taken_end.new.ends ≡ slice_set c.self.inside.ends.items c.args.seat None = c.taken_end.ensures.left ∙ ap (λ (l : List (Option CoreEvent)). slice_set l c.args.seat None) c.deref_mut.ensures.value in
     let written = all_written c.self.inside.ends.len c.self.inside.ends.items c.taken_end.new.ends (omega (arith, c.self.inside.ends.ok.0)) (ap length left ∙ length-set c.self.inside.ends.items c.args.seat None) in
-    subst (λ (l : List (Option CoreEvent)). IsCourse (record { plan = c.self.inside.plan.value; files = c.self.inside.files.value; history = c.take.new.history.items }) c.take.new.core c.self.inside.turn l (vec_capacity c.take.new.history)) (sym (written ∙ left))
-    (denied_kept _ _ _ _ _ _ c.self.invariant c.self.view_is c.args.plan.now c.requires.plan c.args.seat was c.take.new.core c.take.new.history.items _ c.take.ensures.core
+    subst (λ (l : List (Option CoreEvent)). IsCourse (record { plan = c.self.inside.plan.value; files = finite.entries c.self.inside.files.value; history = c.take.new.history.items }) c.take.new.core c.self.inside.turn l (vec_capacity c.take.new.history)) (sym (written ∙ left))
+    (denied_kept _ _ _ _ _ _ c.self.invariant c.self.view_is c.args.plan.now c.requires.plan c.args.seat was c.take.new.core c.take.new.history.items _ c.take.ensures.core c.take.ensures.first
     (c.take.ensures.state ∙ ap (after c.args.plan.now (state_of c.self.inside.core)) end_is) (c.take.ensures.history ∙ ap (λ (e : CoreEvent). c.self.inside.history.items ++ e ∷ []) end_is) c.take.ensures.capacity)
 
 pub returns : goal.returns

@@ -26,7 +26,7 @@ free-requires-clause-before c = (_, turn_here _ _ _ _ _ _ c.self.invariant c.sel
 
 pub invariant_of-self : goal.invariant_of-self
 invariant_of-self c =
-    good_kept _ _ _ _ _ _ c.self.invariant c.self.view_is c.args.plan.now c.requires.plan c.args.rule c.args.end c.requires.end c.take.new.core c.take.new.history.items _ _ c.take.ensures.core c.take.ensures.state c.take.ensures.history
+    good_kept _ _ _ _ _ _ c.self.invariant c.self.view_is c.args.plan.now c.requires.plan c.args.rule c.args.end c.requires.end c.take.new.core c.take.new.history.items _ _ c.take.ensures.core c.take.ensures.first c.take.ensures.state c.take.ensures.history
     c.free.ensures c.take.ensures.capacity
 
 pub returns : goal.returns

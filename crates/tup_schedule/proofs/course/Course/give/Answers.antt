@@ -25,7 +25,7 @@ claim-requires-clause-before c = (_, turn_here _ _ _ _ _ _ c.self.invariant c.se
 
 pub invariant_of-self : goal.invariant_of-self
 invariant_of-self c =
-    claim_kept _ _ _ _ _ _ c.self.invariant c.self.view_is c.args.plan.now c.requires.plan c.args.seat c.args.rule c.take.new.core c.take.new.history.items _ _ c.requires.enabled c.take.ensures.core c.take.ensures.state c.take.ensures.history
+    claim_kept _ _ _ _ _ _ c.self.invariant c.self.view_is c.args.plan.now c.requires.plan c.args.seat c.args.rule c.take.new.core c.take.new.history.items _ _ c.requires.enabled c.take.ensures.core c.take.ensures.first c.take.ensures.state c.take.ensures.history
     c.claim.ensures c.take.ensures.capacity
 
 pub returns : goal.returns

@@ -11,7 +11,7 @@ try_take-requires-clause-enabled c = from_now _ _ _ _ _ _ c.self.invariant c.sel
 
 pub invariant_of-self : goal.invariant_of-self
 invariant_of-self c =
-    tried_kept _ _ _ _ _ _ c.self.invariant c.self.view_is c.args.plan.now c.requires.plan c.args.event c.try_take.new.core c.try_take.new.history.items c.most_to_come.result _ c.try_take.result c.requires.enabled c.requires.beside c.try_take.ensures.core
+    tried_kept _ _ _ _ _ _ c.self.invariant c.self.view_is c.args.plan.now c.requires.plan c.args.event c.try_take.new.core c.try_take.new.history.items c.most_to_come.result _ c.try_take.result c.requires.enabled c.requires.beside c.try_take.ensures.core c.try_take.ensures.first
     c.try_take.ensures.state c.try_take.ensures.history c.most_to_come.ensures.many c.try_take.ensures.room c.try_take.ensures.unchanged c.try_take.ensures.as_before c.try_take.ensures.no_less
 
 pub returns-clause-ok : goal.returns-clause-ok
