@@ -2,11 +2,10 @@
 use Rattle.std.proofs.Common.{◌≡◌, ℕ, zero, suc, ◌+◌, ◌<◌, Bool, true, false, cond, List, [], ◌∷◌, ◌++◌, length, get_or, take, Option, Some, refl, sym, ap, ◌∙◌, subst, inl, inr, arith}
 use Rattle.std.specs.Prelude.{◌==◌, if◌then◌else◌, is_some, slice_get}
 use Rattle.std.proofs.lemmas.Bool.{true≢false, cases_eq, eqb-true, or_left, or_right, or_cases}
-use Rattle.std.proofs.lemmas.Option.{same_Some, slice_get-get_or}
+use Rattle.std.proofs.lemmas.Option.{same_Some}
 use Rattle.std.proofs.lemmas.List.{take_more, length-map, ext_get_or, get_or_default, get_or_read}
 use Rattle.std.proofs.lemmas.List.Folds.{list_any_more}
 use Rattle.std.specs.Cmp.{eq_by_cmp_equiv}
-use Rattle.std.specs.List.{list_any}
 use Rattle.std.specs.Option.{option_flatten, option_or}
 use Rattle.std.specs.Ordering.{eq_by_cmp}
 use Rattle.tup_path.specs.Name.{Names}
@@ -16,6 +15,7 @@ use Rattle.tup_stamp.specs.declared.Stamp.{Stamp}
 use Rattle.tup_rule.specs.declared.rule.Rule.{Rule}
 use Rattle.tup_rule.specs.Rule.{among, writes}
 use Rattle.tup_core.specs.declared.files.FileStamps.{FileStamps}
+use Rattle.tup_core.specs.Links.{is_one_of}
 use Rattle.tup_core.specs.Files.{has_room, paths_in, AreKept, HasRoomFor}
 use Rattle.tup_core.specs.Step.{with_stamps}
 
@@ -65,25 +65,6 @@ kept_more old middle new first next = record {
   stamps = λ path. next.stamps path ∙ first.stamps path;
   room = λ path had. next.room path (first.room path had);
 }
-
--- whether a number is one of these
-abbrev pub is_one_of : List ℕ → ℕ → Bool
-is_one_of numbers at = list_any (λ number. at == number) numbers
-
--- what holds of the outputs of the first rules, holds of those of one more
-pub outputs_more : (rules : List Rule) (test : ℕ → Bool) (i : ℕ) (item : Rule) (old new : Names → Bool) → i < length rules → item ≡ get_or rules i item → ((path : Names) → old path ≡ true → new path ≡ true) →
-    (test i ≡ true → (path : Names) → writes item path ≡ true → new path ≡ true) → ((at : ℕ) (rule : Rule) (path : Names) → at < i → test at ≡ true → slice_get rules at ≡ Some rule → writes rule path ≡ true → old path ≡ true) →
-    (at : ℕ) (rule : Rule) (path : Names) → at < i + 1 → test at ≡ true → slice_get rules at ≡ Some rule → writes rule path ≡ true → new path ≡ true
-outputs_more rules test i item old new within is kept one before at rule path below up here written = elim (cases_eq at i) [
-  | inr apart ↦ kept path (before at rule path (nearer at apart below) up here written)
-  | inl same ↦
-      let placed : slice_get rules i ≡ Some item = slice_get-get_or rules i item within ∙ ap Some (sym is) in
-      let equal : rule ≡ item = same_Some rule item (sym here ∙ ap (slice_get rules) same ∙ placed) in
-      one (ap test (sym same) ∙ up) path (ap (λ (r : Rule). writes r path) (sym equal) ∙ written)
-]
-  where
-    nearer : (n : ℕ) → (n ≡ i → ⊥) → n < i + 1 → n < i
-    nearer n apart below = omega arith
 
 -- room for the outputs of one rule of the reach more
 pub rooms_more : (rules : List Rule) (reach : List ℕ) (i at : ℕ) (item : Rule) (old new : FileStamps) → i < length reach → at ≡ get_or reach i at → slice_get rules at ≡ Some item → AreKept old new →

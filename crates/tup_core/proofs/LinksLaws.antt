@@ -7,9 +7,9 @@ use Rattle.std.specs.BTreeSet.{BTreeSet, contains}
 use Rattle.std.specs.List.{position, position_or_len}
 use Rattle.std.specs.Option.{option_or}
 use Rattle.std.specs.Ordering.{eq_by_cmp}
-use Rattle.std.proofs.lemmas.Bool.{true≢false, cases_eq, cases_lt, and_parts, not-true, eq-eqb, ne_eqb, lt-ltb, le-ltb}
+use Rattle.std.proofs.lemmas.Bool.{true≢false, cases_eq, cases_lt, or_cases, or_left, or_right, and_parts, not-true, eq-eqb, eqb-true, ne_eqb, lt-ltb, le-ltb}
 use Rattle.std.proofs.lemmas.List.{take_more, length-take-le, length_push}
-use Rattle.std.proofs.lemmas.List.Folds.{list_any_more, list_any-append, position_or_len_push}
+use Rattle.std.proofs.lemmas.List.Folds.{list_any_at, list_any_more, list_any-append, position_or_len_push}
 use Rattle.std.proofs.lemmas.List.Sums.{prefix_len-le-length}
 use Rattle.std.proofs.lemmas.Option.{same_Some, none-some, slice_get_within, slice_get-get_or}
 use Rattle.tup_path.specs.Name.{Names}
@@ -22,10 +22,33 @@ use Rattle.tup_rule.proofs.Laws.{maker-Some}
 use Rattle.tup_clean.specs.Queue.{count_of, AreBelow, IsNoted}
 use Rattle.tup_clean.proofs.Counting.{count_of-take}
 use Rattle.tup_clean.proofs.Places.{some_place}
-use Rattle.tup_core.specs.Links.{AreNear, AreListed, AreMade, AreUp, HasMakersIn, AddsMakerIn}
+use Rattle.tup_core.specs.Links.{is_one_of, AreRules, IsReachOf, AreNear, AreListed, AreMade, AreUp, HasMakersIn, AddsMakerIn}
 use Rattle.tup_core.specs.Waiting.{flag, times}
 use Rattle.tup_core.proofs.FilesLaws.{same_key}
 use Rattle.tup_core.proofs.WaitingLaws.{makes_one, counts_one, there, entry_of}
+
+-- ---- numbers of rules
+
+pub next_rule : (rules : List Rule) (numbers : List ℕ) (i : ℕ) → AreRules rules numbers → i < length numbers → get_or numbers i 0 < length rules
+next_rule rules numbers i are less = are (get_or numbers i 0) (list_any_at (λ number. get_or numbers i 0 == number) numbers i 0 less (eq-eqb (get_or numbers i 0) (get_or numbers i 0) refl))
+
+-- ---- outputs of rules
+
+pub made_none : (rules : List Rule) (set : BTreeSet Names) → AreMade rules [] set
+made_none rules set at rule path found = absurd (true≢false (sym found))
+
+pub made_more : (rules : List Rule) (numbers : List ℕ) (i : ℕ) (item : Rule) (outputs : List Names) (old new : BTreeSet Names) → i < length numbers → get_or numbers i 0 < length rules → item ≡ get_or rules (get_or numbers i 0) item →
+    outputs ≡ item.outputs → ((path : Names) → contains by_names new path ≡ (contains by_names old path || among path outputs)) → AreMade rules (take i numbers) old → AreMade rules (take (i + 1) numbers) new
+made_more rules numbers i item outputs old new less within is its adds made at rule path found here written =
+    adds path
+    ∙ elim (or_cases (is_one_of (take i numbers) at) (at == get_or numbers i 0) (sym (list_any_more (λ number. at == number) numbers i 0 less) ∙ found)) [
+      | inl before ↦ or_left (contains by_names old path) (among path outputs) (made at rule path before here written)
+      | inr last ↦
+          let same : at ≡ get_or numbers i 0 = eqb-true at (get_or numbers i 0) last in
+          let placed : slice_get rules (get_or numbers i 0) ≡ Some item = slice_get-get_or rules (get_or numbers i 0) item within ∙ ap Some (sym is) in
+          let equal : item ≡ rule = same_Some item rule (sym placed ∙ ap (slice_get rules) (sym same) ∙ here) in
+          or_right (contains by_names old path) (among path outputs) (ap (among path) its ∙ ap (λ (r : Rule). writes r path) equal ∙ written)
+    ]
 
 -- ---- one more at the end
 
@@ -196,8 +219,8 @@ pub producers_within : (makers : MakerMap) (rule : Rule) (bound : ℕ) → ((pat
 producers_within makers rule bound within at some = let one = makes_one (λ path. get by_names makers path) (rule.inputs ++ rule.order) at some in within one.0 at one.2
 
 -- in the end each list is sound, and those of reached rules are whole
-pub near_of : (rules : List Rule) (reached : List Bool) (set : BTreeSet Names) (makers : MakerMap) (lists : List (List ℕ)) → AreMade rules reached set → HasMakersIn set rules makers → AreListed rules makers (length rules) lists → AreNear rules reached lists
-near_of rules reached set makers lists made has listed = record {
+pub near_of : (rules : List Rule) (reached : List Bool) (numbers : List ℕ) (set : BTreeSet Names) (makers : MakerMap) (lists : List (List ℕ)) → IsReachOf rules reached numbers → AreMade rules numbers set → HasMakersIn set rules makers → AreListed rules makers (length rules) lists → AreNear rules reached lists
+near_of rules reached numbers set makers lists reach made has listed = record {
   many = listed.many;
   sound = λ other at some. elim (cases_lt at (length rules)) [
     | inr past ↦ absurd (let none = listed.later at other (unwrap_or (slice_get lists other) []) past (there lists other at some) in omega (arith, none, some))
@@ -210,7 +233,7 @@ near_of rules reached set makers lists made has listed = record {
   first = λ other at rule up here (path, declared, makes).
       let maker_is = maker-Some rules path other makes in
       let within : other < length lists = subst (λ (n : ℕ). other < n) (sym listed.many) (slice_get_within rules other maker_is.rule maker_is.here) in
-      let known = made other maker_is.rule path up maker_is.here maker_is.writes_it in
+      let known = made other maker_is.rule path (reach.all other up) maker_is.here maker_is.writes_it in
       let found : get by_names makers path ≡ Some other = has.each path ∙ ap (λ (b : Bool). if b then maker path rules else None) known ∙ makes in
       let some = counts_one (λ p. get by_names makers p) (rule.inputs ++ rule.order) path other (list_any-append (same_path path) rule.inputs rule.order ∙ declared) found in
       subst (λ (n : ℕ). 0 < n) (sym (listed.each at other rule (unwrap_or (slice_get lists other) []) (slice_get_within rules at rule here) here (entry_of lists other within))) some;

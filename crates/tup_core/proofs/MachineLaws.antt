@@ -17,6 +17,7 @@ use Rattle.tup_core.specs.declared.running.Running.{Running}
 use Rattle.tup_core.specs.declared.machine.Core.{Core}
 use Rattle.tup_core.specs.Step.{with_stamps, opening, is_reached, IsReady}
 use Rattle.tup_core.specs.Sound.{IsInRange}
+use Rattle.tup_core.specs.Links.{IsReachOf}
 use Rattle.tup_core.specs.Waiting.{flag, number, IsWaiting}
 use Rattle.tup_core.specs.Files.{stamp_in, HasRoomFor}
 use Rattle.tup_core.specs.Machine.{entry, state_of, ready_test, IsSettled, IsCore}
@@ -117,6 +118,10 @@ opened_state plan files core made = λ i. record {
   where
     no_claim : (at : ℕ) → flag core.claimed.items at ≡ false
     no_claim at = ap (λ (flags : List Bool). flag flags at) made.claimed ∙ flag_none (length plan.rules) at
+
+-- flags that are up at the reach have the numbers of the reach
+pub reach_of : (plan : Plan) (flags : List Bool) → IsInRange plan → ((at : ℕ) → flag flags at ≡ is_reached plan at) → IsReachOf plan.rules flags plan.reach
+reach_of plan flags range are = record { places = range; all = λ at up. sym (are at) ∙ up }
 
 -- one more number of the reach is marked
 pub reached_more : (reach : List ℕ) (i item q : ℕ) (flags : List Bool) → i < length reach → item ≡ get_or reach i item → item < length flags → flag flags q ≡ list_any (λ number. q == number) (take i reach) →

@@ -1,7 +1,8 @@
 -- Who reads what the reached rules make (own).
-use Rattle.std.specs.Prelude.{◌≡◌, ◌⊎◌, ℕ, ◌<◌, ◌≤◌, ◌&&◌, if◌then◌else◌, Bool, true, List, length, None, Some, slice_get}
+use Rattle.std.specs.Prelude.{◌≡◌, ◌⊎◌, ℕ, ◌<◌, ◌≤◌, ◌==◌, ◌&&◌, if◌then◌else◌, Bool, true, List, length, None, Some, slice_get}
 use Rattle.std.specs.BTreeMap.{get}
 use Rattle.std.specs.BTreeSet.{BTreeSet, contains}
+use Rattle.std.specs.List.{list_any}
 use Rattle.std.specs.Option.{option_or}
 use Rattle.tup_path.specs.Name.{Names}
 use Rattle.tup_path.specs.Order.{by_names}
@@ -35,9 +36,22 @@ pub record AreLinks (rules : List Rule) (reached : List Bool) (lists : List (Lis
   pub near : AreNear rules reached lists
   pub others : AreUp lists reached ⊎ AreWhole rules lists
 
--- a set has the outputs of the rules whose flags are up
-abbrev pub AreMade : List Rule → List Bool → BTreeSet Names → Type 0
-AreMade rules flags set = (at : ℕ) (rule : Rule) (path : Names) → flag flags at ≡ true → slice_get rules at ≡ Some rule → writes rule path ≡ true → contains by_names set path ≡ true
+-- whether a number is one of these
+abbrev pub is_one_of : List ℕ → ℕ → Bool
+is_one_of numbers at = list_any (λ number. at == number) numbers
+
+-- numbers are the places of rules
+abbrev pub AreRules : List Rule → List ℕ → Type 0
+AreRules rules numbers = (at : ℕ) → is_one_of numbers at ≡ true → at < length rules
+
+-- numbers are those of the rules whose flags are up, and of other rules at most
+pub record IsReachOf (rules : List Rule) (flags : List Bool) (numbers : List ℕ) : Type 0 where
+  pub places : AreRules rules numbers
+  pub all : (at : ℕ) → flag flags at ≡ true → is_one_of numbers at ≡ true
+
+-- a set has the outputs of the rules with some numbers
+abbrev pub AreMade : List Rule → List ℕ → BTreeSet Names → Type 0
+AreMade rules numbers set = (at : ℕ) (rule : Rule) (path : Names) → is_one_of numbers at ≡ true → slice_get rules at ≡ Some rule → writes rule path ≡ true → contains by_names set path ≡ true
 
 -- a map that has just the makers of the paths of a set
 pub record HasMakersIn (set : BTreeSet Names) (rules : List Rule) (makers : MakerMap) : Type 0 where

@@ -1,13 +1,12 @@
 //! Who reads what the reached rules make, found without the readers of all other rules.
-ghost use Rattle.std.specs.Prelude.{◌≡◌, ◌∷◌, ◌&&◌, ◌<◌, [], ℕ, true, Some, not, IfOk, OnOk, IsTrue, is_some, length, replicate};
+ghost use Rattle.std.specs.Prelude.{◌≡◌, ◌∷◌, ◌&&◌, ◌<◌, [], ℕ, Bool, List, true, Some, not, IfOk, OnOk, IsTrue, is_some, length, replicate};
 ghost use Rattle.std.specs.BTreeMap.{get};
 ghost use Rattle.std.specs.BTreeSet.{contains};
 ghost use Rattle.tup_path.specs.Name.{Names};
 ghost use Rattle.tup_path.specs.Order.{by_names};
 ghost use Rattle.tup_rule.specs.Makers.{producers_in};
-ghost use Rattle.tup_rule.specs.Rule.{writes};
 ghost use Rattle.tup_clean.specs.Queue.{count_of, AreBelow, IsNoted};
-ghost use Rattle.tup_core.specs.Links.{AreLinks, AreListed, AreMade, AreNear, AreUp, HasMakersIn, AddsMakerIn};
+ghost use Rattle.tup_core.specs.Links.{IsReachOf, AreRules, AreLinks, AreListed, AreMade, AreNear, AreUp, HasMakersIn, AddsMakerIn};
 ghost use Rattle.tup_core.specs.Waiting.{flag};
 
 use crate::start::is_up;
@@ -23,12 +22,14 @@ use tup_rule::{Makers, Rule, producers_of};
 pub(crate) fn links(
     alloc: Global,
     rules: &[Rule],
+    reach: &[u32],
     reached: &[bool],
 ) -> Result<Vec<Places>, AllocError>
-    requires { length reached.now ≡ length rules.now }
+    requires reach { IsReachOf rules.now reached.now reach.now }
+    requires reached { length reached.now ≡ length rules.now }
     ensures { IfOk result (λ lists. AreLinks rules.now reached.now lists.items) }
 {
-    let near = near_readers(alloc, rules, reached)?;
+    let near = near_readers(alloc, rules, reach)?;
     if are_up(&near, reached) {
         return Ok(near);
     }
@@ -36,36 +37,26 @@ pub(crate) fn links(
 }
 
 /// The readers of the reached rules, and of no others but those that make an output of a reached one before it.
-fn near_readers(alloc: Global, rules: &[Rule], reached: &[bool]) -> Result<Vec<Places>, AllocError>
-    ensures { IfOk result (λ lists. AreNear rules.now reached.now lists.items) }
+fn near_readers(alloc: Global, rules: &[Rule], reach: &[u32]) -> Result<Vec<Places>, AllocError>
+    requires { AreRules rules.now reach.now }
+    ensures { IfOk result (λ lists. (flags : List Bool) → IsReachOf rules.now flags reach.now
+        → AreNear rules.now flags lists.items) }
 {
-    let made = made_by(alloc, rules, reached)?;
+    let made = made_by(alloc, rules, reach)?;
     let makers = makers_of(alloc, rules, &made)?;
     readers_by(alloc, rules, &makers)
 }
 
-/// The outputs of the rules whose flags are up.
-fn made_by(alloc: Global, rules: &[Rule], flags: &[bool]) -> Result<BTreeSet<Path>, AllocError>
-    ensures { IfOk result (AreMade rules.now flags.now) }
+/// The outputs of the rules with some numbers.
+fn made_by(alloc: Global, rules: &[Rule], reach: &[u32]) -> Result<BTreeSet<Path>, AllocError>
+    requires { AreRules rules.now reach.now }
+    ensures { IfOk result (AreMade rules.now reach.now) }
 {
     let mut made = BTreeSet::new(alloc);
-    for (at, rule) in rules.iter().enumerate() {
-        add_if(&mut made, rule, is_up(flags, at))?;
+    for at in reach {
+        add_paths(&mut made, rules[*at as usize].outputs.as_slice())?;
     }
     Ok(made)
-}
-
-/// Adds the outputs of a rule, where they are asked for.
-fn add_if(made: &mut BTreeSet<Path>, rule: &Rule, asked: bool) -> Result<(), AllocError>
-    ensures kept { OnOk result ((path : Names) → contains by_names made.old path ≡ true
-        → contains by_names made.new path ≡ true) }
-    ensures added { OnOk result (asked ≡ true → (path : Names) → writes rule.now path ≡ true
-        → contains by_names made.new path ≡ true) }
-{
-    if asked {
-        add_paths(made, rule.outputs.as_slice())?;
-    }
-    Ok(())
 }
 
 /// The makers of some paths.
@@ -132,7 +123,7 @@ fn readers_by(alloc: Global, rules: &[Rule], makers: &Makers) -> Result<Vec<Plac
 fn no_readers(alloc: Global, count: usize) -> Result<Vec<Places>, AllocError>
     ensures { IfOk result (λ lists. lists.items ≡ replicate count []) }
 {
-    let mut lists = Vec::new(alloc);
+    let mut lists = Vec::with_capacity(alloc, count)?;
     for _ in 0..count {
         lists.push(Items::new(alloc))?;
     }

@@ -70,7 +70,7 @@ impl Core {
         Ok(Core {
             generated: generated(alloc, rules)?,
             inputs: inputs_of_all(alloc, rules, &pending)?,
-            waiting: Waiting::new(alloc, rules, &pending)?,
+            waiting: Waiting::new(alloc, rules, plan.reach.as_slice(), &pending)?,
             files: FileStamps::new(alloc, files, plan)?,
             pending,
             claimed: lowered(alloc, rules.len())?,

@@ -14,18 +14,14 @@ use tup_rule::Rule;
 pub(crate) fn lowered(alloc: Global, count: usize) -> Result<Vec<bool>, AllocError>
     ensures { IfOk result (λ flags. flags.items ≡ replicate count false) }
 {
-    let mut flags = Vec::new(alloc);
-    for _ in 0..count {
-        flags.push(false)?;
-    }
-    Ok(flags)
+    Ok(vec![in alloc; false; count]?)
 }
 
 /// Nothing, so many times.
 pub(crate) fn nothing<T: Drop>(alloc: Global, count: usize) -> Result<Vec<Option<T>>, AllocError>
     ensures { IfOk result (λ entries. entries.items ≡ replicate count None) }
 {
-    let mut entries = Vec::new(alloc);
+    let mut entries = Vec::with_capacity(alloc, count)?;
     for _ in 0..count {
         entries.push(None)?;
     }
@@ -36,11 +32,7 @@ pub(crate) fn nothing<T: Drop>(alloc: Global, count: usize) -> Result<Vec<Option
 pub(crate) fn copied(alloc: Global, flags: &[bool]) -> Result<Vec<bool>, AllocError>
     ensures { IfOk result (λ copy. copy.items ≡ flags.now) }
 {
-    let mut copy = Vec::new(alloc);
-    for flag in flags {
-        copy.push(*flag)?;
-    }
-    Ok(copy)
+    Ok(Vec::from_slice(alloc, flags)?)
 }
 
 /// A flag for each rule: whether it is in the reach.
@@ -71,7 +63,7 @@ pub(crate) fn inputs_of_all(
 ) -> Result<Vec<Inputs>, AllocError>
     ensures { IfOk result (λ all. AreInputsOfAll rules.now all.items) }
 {
-    let mut all = Vec::new(alloc);
+    let mut all = Vec::with_capacity(alloc, rules.len())?;
     for (at, rule) in rules.iter().enumerate() {
         all.push(inputs_if(alloc, rule, is_up(flags, at))?)?;
     }

@@ -2,6 +2,7 @@
 ghost use Rattle.std.specs.Prelude.{◌≡◌, ◌==◌, ◌+◌, ◌^◌, ◌∷◌, [], ℕ, Bool, List, ◌<◌, ◌≤◌, IfOk, length, replicate};
 ghost use Rattle.tup_clean.specs.Queue.{count_of};
 ghost use Rattle.tup_core.specs.Walk.{Raises, readers_if};
+ghost use Rattle.tup_core.specs.Links.{IsReachOf};
 ghost use Rattle.tup_core.specs.Waiting as specs;
 ghost use Rattle.tup_core.specs.Waiting.{number, flag, taken, IsWaiting, AreWithin, AreDown, AreInner, AreEntries, AreAllWaiters, AreCounts, IsShort, Releases, CanRelease};
 
@@ -29,16 +30,18 @@ pub(crate) struct Waiting {
 }
 
 impl Waiting {
-    /// What rules wait for where these are pending.
+    /// What rules wait for where these are pending, whose numbers stand in a list too.
     pub(crate) fn new(
         alloc: Global,
         rules: &[Rule],
+        reach: &[u32],
         pending: &[bool],
     ) -> Result<Waiting, AllocError>
-        requires { length pending.now ≡ length rules.now }
+        requires reach { IsReachOf rules.now pending.now reach.now }
+        requires pending { length pending.now ≡ length rules.now }
         ensures { IfOk result (IsWaiting rules.now (flag pending.now) pending.now) }
     {
-        let listed = links(alloc, rules, pending)?;
+        let listed = links(alloc, rules, reach, pending)?;
         let entries = entries(alloc, &listed, pending)?;
         let waiters = all_waiters(alloc, &listed, pending, &entries)?;
         let waits = counted(alloc, &waiters)?;
@@ -159,7 +162,7 @@ fn fill_waiters(
     ensures { IfOk result (λ waiters.
         AreAllWaiters readers.now reached.now entries.now waiters.items) }
 {
-    let mut waiters = Vec::new(alloc);
+    let mut waiters = Vec::with_capacity(alloc, readers.len())?;
     for at in 0..readers.len() {
         waiters.push(waiters_of(alloc, readers, reached, entries, at, seen)?)?;
     }
@@ -194,11 +197,7 @@ fn add_all(lists: &[Places], counts: &mut [usize])
 fn zeros(alloc: Global, count: usize) -> Result<Vec<usize>, AllocError>
     ensures { IfOk result (λ numbers. numbers.items ≡ replicate count 0) }
 {
-    let mut numbers = Vec::new(alloc);
-    for _ in 0..count {
-        numbers.push(0)?;
-    }
-    Ok(numbers)
+    Ok(vec![in alloc; 0; count]?)
 }
 
 /// Adds one at each of these places.

@@ -1,8 +1,10 @@
 -- Which rules may be claimed: in a core, once one is claimed, and once one is done.
-use Rattle.std.proofs.Common.{◌≡◌, ◌↔◌, ℕ, zero, suc, ◌+◌, ◌<◌, ◌≤◌, ◌^◌, ◌⊎◌, ◌==◌, Bool, true, false, not, ◌&&◌, List, [], ◌∷◌, Option, None, Some, length, get_or, take, refl, sym, ap, ◌∙◌, subst, inl, inr, arith}
-use Rattle.std.specs.Prelude.{if◌then◌else◌, IsTrue, is_some, nat_lt, slice_get}
-use Rattle.std.proofs.lemmas.Bool.{true≢false, cases_Bool, cases_lt, not-true, and_parts, and_from, eq-eqb, eqb-true, lt-ltb, le-ltb, ltb-true, ltb-false}
+use Rattle.std.proofs.Common.{◌≡◌, ◌↔◌, ℕ, zero, suc, ◌+◌, ◌<◌, ◌≤◌, ◌^◌, ◌⊎◌, ◌==◌, Bool, true, false, not, ◌&&◌, ◌||◌, List, [], ◌∷◌, Option, None, Some, length, get_or, take, refl, sym, ap, ◌∙◌, subst, inl, inr, arith}
+use Rattle.std.specs.List.{list_any}
+use Rattle.std.specs.Prelude.{if◌then◌else◌, IsTrue, is_some, slice_get}
+use Rattle.std.proofs.lemmas.Bool.{true≢false, cases_Bool, cases_lt, not-true, and_parts, and_from, eq-eqb, eqb-true}
 use Rattle.std.proofs.lemmas.List.{take_all}
+use Rattle.std.proofs.lemmas.List.Folds.{list_any_more}
 use Rattle.std.proofs.lemmas.Option.{slice_get_within}
 use Rattle.tup_rule.specs.declared.rule.Rule.{Rule}
 use Rattle.tup_rule.specs.Producer.{MakesFor, DeclaredProducer, ProducerOver}
@@ -48,16 +50,19 @@ test_by_open plan core at is opened =
 pub open_within : (plan : Plan) (state : State) (at : ℕ) → IsOpen plan state at → at < length plan.rules
 open_within plan state at opened = slice_get_within plan.rules at opened.clear.0 opened.clear.1
 
+pub open_place : (plan : Plan) (core : Core) (at : ℕ) → IsCore plan core → open_test core at ≡ true → at < length plan.rules
+open_place plan core at is passes = open_within plan (state_of core) at (open_by_test plan core at is passes)
+
 -- ---- the marks of a core
 pub turn_of : (plan : Plan) (core : Core) (marks : Marks) → IsCore plan core → IsMarks marks → length plan.rules ≤ marks.places → length plan.rules ≤ 2 ^ 32
-    → ((at : ℕ) → is_marked marks at ≡ (nat_lt at (length plan.rules) && open_test core at)) → IsTurn plan (state_of core) (record { marks = marks })
+    → ((at : ℕ) → is_marked marks at ≡ (is_reached plan at && open_test core at)) → IsTurn plan (state_of core) (record { marks = marks })
 turn_of plan core marks is kept places few set = record {
   marks = kept;
   places = places;
   few = few;
   each = λ at. (
-    λ marked. open_by_test plan core at is (and_parts (nat_lt at (length plan.rules)) (open_test core at) (sym (set at) ∙ marked)).1,
-    λ opened. set at ∙ and_from _ _ (lt-ltb at (length plan.rules) (open_within plan (state_of core) at opened)) (test_by_open plan core at is opened),
+    λ marked. open_by_test plan core at is (and_parts (is_reached plan at) (open_test core at) (sym (set at) ∙ marked)).1,
+    λ opened. set at ∙ and_from _ _ (is.reached at opened.pending) (test_by_open plan core at is opened),
   );
 }
 
@@ -306,41 +311,50 @@ in_one : (place at : ℕ) → 0 < count_of at (place ∷ []) → at ≡ place
 in_one place at some = elim (one_or_other at place) [ inl here ↦ here.0 | inr apart ↦ absurd (let none = none_of_one place at apart.0 in omega (arith, none, some)) ]
 
 -- ---- marks that are set one after another
--- the first so many rules were looked at
-pub record AreOpened (core : Core) (old new : Marks) (count : ℕ) : Type 0 where
+-- some rules were looked at
+pub record AreOpened (core : Core) (old new : Marks) (numbers : List ℕ) : Type 0 where
   pub marks : IsMarks new
   pub places : new.places ≡ old.places
-  pub set : (at : ℕ) → is_marked new at ≡ (nat_lt at count && open_test core at)
+  pub set : (at : ℕ) → is_marked new at ≡ (list_any (λ number. at == number) numbers && open_test core at)
 
-pub opened_none : (core : Core) (marks : Marks) → IsMarks marks → ((at : ℕ) → is_marked marks at ≡ false) → AreOpened core marks marks 0
-opened_none core marks is none = record {
-  marks = is;
-  places = refl;
-  set = λ at. none at ∙ sym (ap (λ (b : Bool). b && open_test core at) (le-ltb at 0 (omega arith)));
-}
+pub opened_none : (core : Core) (marks : Marks) → IsMarks marks → ((at : ℕ) → is_marked marks at ≡ false) → AreOpened core marks marks []
+opened_none core marks is none = record { marks = is; places = refl; set = none }
 
-pub opened_more : (core : Core) (old mid new : Marks) (count : ℕ) → AreOpened core old mid count → IsMarks new → new.places ≡ mid.places
-    → ((at : ℕ) → is_marked new at ≡ (if at == count then open_test core count else is_marked mid at)) → AreOpened core old new (count + 1)
-opened_more core old mid new count are kept places set = record {
+pub opened_more : (core : Core) (old mid new : Marks) (numbers : List ℕ) (i : ℕ) → i < length numbers → AreOpened core old mid (take i numbers) → IsMarks new → new.places ≡ mid.places
+    → ((at : ℕ) → is_marked new at ≡ (is_marked mid at || (at == get_or numbers i 0 && open_test core (get_or numbers i 0)))) → AreOpened core old new (take (i + 1) numbers)
+opened_more core old mid new numbers i less are kept places set = record {
   marks = kept;
   places = places ∙ are.places;
-  set = λ at. one at (one_or_other at count);
+  set = λ at.
+      set at
+      ∙ ap (λ (b : Bool). b || (at == get_or numbers i 0 && open_test core (get_or numbers i 0))) (are.set at)
+      ∙ by (list_any (λ number. at == number) (take i numbers)) (at == get_or numbers i 0) (open_test core at) (open_test core (get_or numbers i 0)) (λ same. ap (open_test core) (sym (eqb-true at (get_or numbers i 0) same)))
+      ∙ ap (λ (b : Bool). b && open_test core at) (sym (list_any_more (λ number. at == number) numbers i 0 less));
 }
   where
-    next : (at : ℕ) → (at ≡ count → ⊥) → nat_lt at count ≡ nat_lt at (count + 1)
-    next at other = go (nat_lt at count) refl
-      where
-        go : (b : Bool) → nat_lt at count ≡ b → nat_lt at count ≡ nat_lt at (count + 1)
-        go true e = let less = ltb-true at count e in e ∙ sym (lt-ltb at (count + 1) (omega (arith, less)))
-        go false e = let past = ltb-false at count e in e ∙ sym (le-ltb at (count + 1) (omega (arith, past, other)))
+    by : (found last opened next : Bool) → (last ≡ true → next ≡ opened) → ((found && opened) || (last && next)) ≡ ((found || last) && opened)
+    by true true true next same = refl
+    by true true false next same = same refl
+    by true false true next same = refl
+    by true false false next same = refl
+    by false true opened next same = same refl
+    by false false opened next same = refl
 
-    one : (at : ℕ) → ((at ≡ count) × ((at == count) ≡ true)) ⊎ ((at ≡ count → ⊥) × ((at == count) ≡ false)) → is_marked new at ≡ (nat_lt at (count + 1) && open_test core at)
-    one at (inl same) =
-        set at ∙ ap (λ (b : Bool). if b then open_test core count else is_marked mid at) same.1 ∙ ap (open_test core) (sym same.0)
-        ∙ ap (λ (b : Bool). b && open_test core at) (sym (lt-ltb at (count + 1) (let here = same.0 in omega (arith, here))))
-    one at (inr apart) =
-        set at ∙ ap (λ (b : Bool). if b then open_test core count else is_marked mid at) apart.1 ∙ are.set at
-        ∙ ap (λ (b : Bool). b && open_test core at) (next at apart.0)
+-- a rule is marked that is open
+pub opens_one : (was same opened : Bool) → opened ≡ true → (if same then true else was) ≡ (was || (same && opened))
+opens_one true true true up = refl
+opens_one false true true up = refl
+opens_one true false true up = refl
+opens_one false false true up = refl
+opens_one was same false up = absurd (true≢false (sym up))
+
+-- and one that isn't stays as it was
+pub opens_none : (was same opened : Bool) → opened ≡ false → was ≡ (was || (same && opened))
+opens_none true true false down = refl
+opens_none false true false down = refl
+opens_none true false false down = refl
+opens_none false false false down = refl
+opens_none was same true down = absurd (true≢false down)
 
 -- the marks of some places are those of a core, and all others stay
 pub record AreTold (core : Core) (old new : Marks) (places : List ℕ) : Type 0 where

@@ -1,5 +1,6 @@
 //! Which rule may be claimed first.
-ghost use Rattle.std.specs.Prelude.{◌≡◌, ◌<◌, ◌≤◌, ◌&&◌, ◌==◌, ◌∷◌, [], ℕ, false, if◌then◌else◌, IfOk, MatchOption, length, nat_lt};
+ghost use Rattle.std.specs.Prelude.{◌≡◌, ◌<◌, ◌&&◌, ◌||◌, ◌==◌, ◌∷◌, [], ℕ, true, false, if◌then◌else◌, IfOk, MatchOption, length};
+ghost use Rattle.std.specs.List.{list_any};
 ghost use Rattle.tup_clean.specs.Queue.{count_of};
 ghost use Rattle.tup_core.specs.Machine.{state_of, IsCore};
 ghost use Rattle.tup_core.specs.Reading.{open_test};
@@ -24,9 +25,8 @@ impl Turn {
         requires { IsCore plan.now core.now }
         ensures { IfOk result (IsTurn plan.now (state_of core.now)) }
     {
-        let count = plan.rules.len();
-        let mut marks = Marks::new(alloc, count)?;
-        mark_open(&mut marks, core, count);
+        let mut marks = Marks::new(alloc, plan.rules.len())?;
+        mark_open(&mut marks, core, plan.reach.as_slice());
         Ok(Turn { marks })
     }
 
@@ -71,17 +71,32 @@ impl Turn {
     }
 }
 
-/// Marks the first rules that are open in a core.
-fn mark_open(marks: &mut Marks, core: &Core, count: usize)
+/// Marks those of some rules that are open in a core.
+fn mark_open(marks: &mut Marks, core: &Core, numbers: &[u32])
     requires marks { IsMarks marks.old }
-    requires count { count ≤ marks.old.places }
+    requires places { (at : ℕ) → open_test core.now at ≡ true → at < marks.old.places }
     requires none { (at : ℕ) → is_marked marks.old at ≡ false }
     ensures marks { IsMarks marks.new }
     ensures places { marks.new.places ≡ marks.old.places }
-    ensures set { (at : ℕ) → is_marked marks.new at ≡ (nat_lt at count && open_test core.now at) }
+    ensures set { (at : ℕ) → is_marked marks.new at
+        ≡ (list_any (λ number. at == number) numbers.now && open_test core.now at) }
 {
-    for at in 0..count {
-        marks.set(at, core.is_open(at));
+    for at in numbers {
+        mark_if_open(marks, core, *at as usize);
+    }
+}
+
+/// Marks a rule, if it's open in a core.
+fn mark_if_open(marks: &mut Marks, core: &Core, at: usize)
+    requires marks { IsMarks marks.old }
+    requires place { open_test core.now at ≡ true → at < marks.old.places }
+    ensures marks { IsMarks marks.new }
+    ensures places { marks.new.places ≡ marks.old.places }
+    ensures set { (other : ℕ) → is_marked marks.new other
+        ≡ (is_marked marks.old other || (other == at && open_test core.now at)) }
+{
+    if core.is_open(at) {
+        marks.set(at, true);
     }
 }
 

@@ -7,4 +7,4 @@ readers_by-requires c = made_within c.in_ok-made.made c.args.rules.now c.in_ok-m
 
 pub returns : goal.returns
 returns c =
-    IfOk-weaker c.readers_by.result _ _ (λ lists listed. near_of c.args.rules.now c.args.reached.now c.in_ok-made.made c.in_ok-makers.makers lists.items c.in_ok-made.ensures c.in_ok-makers.ensures listed) c.readers_by.ensures
+    IfOk-weaker c.readers_by.result _ _ (λ lists listed flags reach. near_of c.args.rules.now flags c.args.reach.now c.in_ok-made.made c.in_ok-makers.makers lists.items reach c.in_ok-made.ensures c.in_ok-makers.ensures listed) c.readers_by.ensures

@@ -5,7 +5,7 @@ use Rattle.tup_core.proofs.Inputs.{inputs_more, no_inputs}
 use Rattle.tup_core.proofs.start.inputs_of_all.Goals as goal
 
 pub loop-at-init : goal.loop-at-init
-loop-at-init c = record { each = no_inputs c.args.rules.now c.new-all.result.items c.new-all.ensures.items; long = ap length c.new-all.ensures.items }
+loop-at-init c = record { each = no_inputs c.args.rules.now c.in_ok-all.all.items c.in_ok-all.ensures.items; long = ap length c.in_ok-all.ensures.items }
 
 pub loop-at-preserved : goal.loop-at-preserved
 loop-at-preserved c =

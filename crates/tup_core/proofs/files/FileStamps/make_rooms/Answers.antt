@@ -5,7 +5,8 @@ use Rattle.tup_path.specs.Name.{Names}
 use Rattle.tup_rule.specs.declared.rule.Rule.{Rule}
 use Rattle.tup_rule.specs.Rule.{among}
 use Rattle.tup_core.specs.Files.{HasRoomFor}
-use Rattle.tup_core.proofs.FilesLaws.{is_one_of, kept_all, kept_more, rooms_more}
+use Rattle.tup_core.specs.Links.{is_one_of}
+use Rattle.tup_core.proofs.FilesLaws.{kept_all, kept_more, rooms_more}
 use Rattle.tup_core.proofs.MachineLaws.{next_is, next_reached}
 use Rattle.tup_core.proofs.StepLaws.{rule_got}
 use Rattle.tup_core.proofs.files.FileStamps.make_rooms.Goals as goal

@@ -1,6 +1,6 @@
 use Rattle.std.proofs.Common.{take}
 use Rattle.tup_core.specs.Files.{AreKept, HasRoomFor}
-use Rattle.tup_core.proofs.FilesLaws.{is_one_of}
+use Rattle.tup_core.specs.Links.{is_one_of}
 use Rattle.tup_core.proofs.files.FileStamps.make_rooms.Given as goal
 
 abbrev pub invariant-loop-at : goal.invariant-loop-at

@@ -4,10 +4,17 @@ use Rattle.tup_rule.specs.declared.rule.Rule.{Rule}
 use Rattle.tup_access.specs.Generated.{IsGenerated}
 use Rattle.tup_access.specs.Inputs.{AreInputsOfAll}
 use Rattle.tup_access.specs.declared.verdict.Verdict.{Verdict}
+use Rattle.tup_core.specs.Links.{IsReachOf}
 use Rattle.tup_core.specs.Waiting.{flag, IsWaiting}
 use Rattle.tup_core.proofs.Entries.{stamps_of_entries}
-use Rattle.tup_core.proofs.MachineLaws.{IsOpening, opened_core, opened_state}
+use Rattle.tup_core.proofs.MachineLaws.{IsOpening, reach_of, opened_core, opened_state}
 use Rattle.tup_core.proofs.machine.Core.new.Goals as goal
+
+pub new-requires-clause-reach : goal.new-requires-clause-reach
+new-requires-clause-reach c =
+    subst (λ (r : List Rule). IsReachOf r c.deref-2.result.now c.as_slice.result.now) (sym c.as_slice-rules.ensures)
+    (subst (λ (l : List Bool). IsReachOf c.args.plan.now.rules l c.as_slice.result.now) (sym c.deref-2.ensures.value)
+    (subst (IsReachOf c.args.plan.now.rules c.in_ok-pending.pending.items) (sym c.as_slice.ensures) (reach_of c.args.plan.now c.in_ok-pending.pending.items c.requires c.in_ok-pending.ensures.flags)))
 
 made : (c : goal.In_ok-nothing-2) → IsOpening c.args.plan.now (finite.entries c.args.files.now) (record {
   generated = c.in_ok-generated.field-0;

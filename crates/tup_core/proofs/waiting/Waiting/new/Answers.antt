@@ -7,13 +7,13 @@ pub entries-requires-clause-within : goal.entries-requires-clause-within
 entries-requires-clause-within c = subst AreWithin (sym c.deref.ensures.value) (readers_within c.args.rules.now c.args.pending.now c.in_ok-listed.listed.items c.in_ok-listed.ensures.near)
 
 pub entries-requires-clause-reached : goal.entries-requires-clause-reached
-entries-requires-clause-reached c = c.requires ∙ sym (ap length c.deref.ensures.value ∙ c.in_ok-listed.ensures.near.many)
+entries-requires-clause-reached c = c.requires.pending ∙ sym (ap length c.deref.ensures.value ∙ c.in_ok-listed.ensures.near.many)
 
 pub all_waiters-requires-clause-within : goal.all_waiters-requires-clause-within
 all_waiters-requires-clause-within c = subst AreWithin (sym c.deref-2.ensures.value) (readers_within c.args.rules.now c.args.pending.now c.in_ok-listed.listed.items c.in_ok-listed.ensures.near)
 
 pub all_waiters-requires-clause-reached : goal.all_waiters-requires-clause-reached
-all_waiters-requires-clause-reached c = c.requires ∙ sym (ap length c.deref-2.ensures.value ∙ c.in_ok-listed.ensures.near.many)
+all_waiters-requires-clause-reached c = c.requires.pending ∙ sym (ap length c.deref-2.ensures.value ∙ c.in_ok-listed.ensures.near.many)
 
 pub all_waiters-requires-clause-entries : goal.all_waiters-requires-clause-entries
 all_waiters-requires-clause-entries c = ap length c.deref-3.ensures.value ∙ c.in_ok-entries.ensures.many ∙ ap length (c.deref.ensures.value ∙ sym c.deref-2.ensures.value)
@@ -43,7 +43,7 @@ returns c =
     let entries = c.in_ok-entries.entries.items in
     let all = all_there readers c.deref-2.result.now c.in_ok-waiters.waiters.items c.args.pending.now entries c.deref-3.result.now c.deref-2.ensures.value c.deref-3.ensures.value c.in_ok-waiters.ensures in
     waiting_start c.args.rules.now readers c.args.pending.now entries (record { waiters = c.in_ok-waiters.waiters; waits = c.in_ok-waits.waits; reached = c.in_ok-reached.reached })
-    c.requires c.in_ok-listed.ensures
+    c.requires.pending c.in_ok-listed.ensures
     (subst (λ (l : List (List ℕ)). AreEntries l c.args.pending.now entries) c.deref.ensures.value c.in_ok-entries.ensures)
     all c.in_ok-reached.ensures
     (λ at. c.in_ok-waits.ensures at ∙ ap (λ (l : List (List ℕ)). total l at) c.deref-4.ensures.value)
