@@ -21,6 +21,7 @@ mod FilesLaws
 pub mod Entries
 pub mod SeenLaws
 mod MachineLaws
+mod AskLaws
 mod StepLaws
 mod SameLaws
 pub mod ReadingLaws

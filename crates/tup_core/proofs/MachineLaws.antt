@@ -8,7 +8,6 @@ use Rattle.std.proofs.lemmas.List.Folds.{list_any_at, list_any_more}
 use Rattle.tup_path.specs.Name.{Names}
 use Rattle.tup_stamp.specs.declared.Stamp.{Stamp}
 use Rattle.tup_access.specs.declared.verdict.Verdict.{Verdict}
-use Rattle.tup_access.specs.Generated.{IsGenerated}
 use Rattle.tup_access.specs.Inputs.{AreInputsOfAll}
 use Rattle.tup_clean.proofs.Places.{some_place}
 use Rattle.tup_core.specs.declared.event.Cause.{Cause}
@@ -19,6 +18,7 @@ use Rattle.tup_core.specs.Step.{with_stamps, opening, is_reached, IsReady}
 use Rattle.tup_core.specs.Sound.{IsInRange}
 use Rattle.tup_core.specs.Links.{IsReachOf}
 use Rattle.tup_core.specs.Waiting.{flag, number, IsWaiting}
+use Rattle.tup_core.specs.Outputs.{AreOutputs}
 use Rattle.tup_core.specs.Files.{stamp_in, HasRoomFor}
 use Rattle.tup_core.specs.Machine.{entry, state_of, ready_test, IsSettled, IsCore}
 use Rattle.tup_core.proofs.ItemLaws.{items_set, flag_within, flag_none}
@@ -82,7 +82,7 @@ pub record IsOpening (plan : Plan) (files : List (Names × Stamp)) (core : Core)
   pub claimed : core.claimed.items ≡ replicate (length plan.rules) false
   pub seats : core.seats.items ≡ replicate 16 None
   pub bad : core.bad.items ≡ replicate (length plan.rules) None
-  pub generated : IsGenerated plan.rules core.generated
+  pub generated : AreOutputs plan.rules core.generated
   pub inputs : AreInputsOfAll plan.rules core.inputs.items
   pub files_in : (path : Names) → stamp_in core.files path ≡ with_stamps (λ _. None) files path
   pub room : HasRoomFor plan.rules (is_reached plan) core.files

@@ -7,6 +7,7 @@ pub mod Planned
 pub mod Settled
 pub mod Laws
 pub mod Files
+pub mod Outputs
 pub mod Waiting
 pub mod Links
 pub mod Walk

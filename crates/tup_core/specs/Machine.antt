@@ -5,7 +5,6 @@ use Rattle.tup_path.specs.Name.{Names}
 use Rattle.tup_rule.specs.declared.rule.Rule.{Rule}
 use Rattle.tup_rule.specs.Rule.{writes}
 use Rattle.tup_access.specs.Access.{access}
-use Rattle.tup_access.specs.Generated.{IsGenerated}
 use Rattle.tup_access.specs.Inputs.{AreInputsOfAll}
 use Rattle.tup_access.specs.declared.verdict.Verdict.{Verdict}
 use Rattle.tup_access.specs.declared.verdict.Access.TheVariants.{Yes}
@@ -19,6 +18,7 @@ use Rattle.tup_core.specs.declared.running.Running.{Running}
 use Rattle.tup_core.specs.declared.machine.Core.{Core}
 use Rattle.tup_core.specs.Step.{State, Step, IsEnabled, FitsEnd, Runs, is_reached}
 use Rattle.tup_core.specs.Waiting.{flag, number, IsWaiting}
+use Rattle.tup_core.specs.Outputs.{AreOutputs}
 use Rattle.tup_core.specs.Files.{stamp_in, IsSeenAt, HasRoomFor}
 use Rattle.tup_core.specs.Ending.{IsUnrefused}
 
@@ -45,14 +45,14 @@ ready_test core at = is_none core.stopped && flag core.pending.items at && not (
 abbrev pub IsSettled : Plan → Core → ℕ → Type 0
 IsSettled plan core at = (at < length plan.rules) × (number core.waiting.waits.items at ≡ 0) × (is_reached plan at ≡ true)
 
--- what a core keeps for its plan: a place for each rule, 16 seats, the set of outputs, room for the stamps of those that the reach makes,
+-- what a core keeps for its plan: a place for each rule, 16 seats, the outputs of all, room for the stamps of those that the reach makes,
 -- what rules declare, and what they wait for; what runs, and what was reached and is pending no longer, waits for none
 pub record IsCore (plan : Plan) (core : Core) : Type 0 where
   pub pending : length core.pending.items ≡ length plan.rules
   pub claimed : length core.claimed.items ≡ length plan.rules
   pub bad : length core.bad.items ≡ length plan.rules
   pub seats : length core.seats.items ≡ 16
-  pub generated : IsGenerated plan.rules core.generated
+  pub generated : AreOutputs plan.rules core.generated
   pub inputs : AreInputsOfAll plan.rules core.inputs.items
   pub room : HasRoomFor plan.rules (is_reached plan) core.files
   pub waiting : IsWaiting plan.rules (is_reached plan) core.pending.items core.waiting

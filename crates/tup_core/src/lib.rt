@@ -14,6 +14,7 @@ mod files;
 mod laws;
 mod links;
 mod machine;
+mod outputs;
 mod plan;
 mod running;
 mod same;

@@ -1,11 +1,9 @@
 //! The machine.
-ghost use Rattle.std.specs.Prelude.{◌≡◌, ◌≢◌, ◌↔◌, ◌<◌, true, false, None, Some, IsTrue, IfOk, IfErr, OnErr, MatchOption, length, List, slice_get, unwrap_or};
+ghost use Rattle.std.specs.Prelude.{◌≡◌, ◌≢◌, ◌↔◌, ◌<◌, true, false, None, Some, IsTrue, IfOk, IfErr, OnErr, MatchOption, length, slice_get, unwrap_or};
 ghost use Rattle.std.specs.FinMap as finite;
 ghost use Rattle.tup_rule.specs.Rule.{writes};
-ghost use Rattle.tup_rule.specs.declared.rule.Rule.{Rule as RuleValue};
 ghost use Rattle.tup_core.specs.declared.running.Running.{Running as RunningValue};
 ghost use Rattle.tup_access.specs.Access.{access as access_of};
-ghost use Rattle.tup_access.specs.Generated.{IsGenerated};
 ghost use Rattle.tup_access.specs.Inputs.{AreInputs};
 ghost use Rattle.tup_access.specs.declared.inputs.Inputs.{Inputs as InputsValue};
 ghost use Rattle.tup_core.specs.Step as specs;
@@ -14,6 +12,7 @@ ghost use Rattle.tup_core.specs.Sound.{IsInRange};
 ghost use Rattle.tup_core.specs.Waiting.{flag, CanRelease};
 ghost use Rattle.tup_core.specs.Ending.{IsUnrefused};
 ghost use Rattle.tup_core.specs.Files.{IsSeenAt};
+ghost use Rattle.tup_core.specs.Outputs.{AreOutputs};
 ghost use Rattle.tup_core.specs.Machine.{entry, state_of, ready_test, IsCore, IsSeenFor, Answers, Takes, Completes, MayEnd};
 
 mod reading;
@@ -22,15 +21,14 @@ use crate::ending::{ended_badly, may_end};
 use crate::event::{Cause, CoreEvent, Stamps};
 use crate::fault::CoreFault;
 use crate::files::FileStamps;
+use crate::outputs::Outputs;
 use crate::plan::Plan;
 use crate::running::{Running, ask_at, deny_at};
 use crate::same::{is_bad, same_answer, same_verdict};
 use crate::start::{inputs_of_all, is_up, lowered, nothing, reached};
 use crate::waiting::Waiting;
 use std::alloc::Global;
-use std::collections::BTreeSet;
-use tup_access::{Access, Inputs, MAX_ASKS, Verdict, allowed};
-use tup_clean::generated;
+use tup_access::{Access, Inputs, MAX_ASKS, Verdict};
 use tup_path::{ByPath, Path, Text};
 use tup_rule::Rule;
 use tup_stamp::Stamp;
@@ -41,7 +39,8 @@ const SEATS: usize = 16;
 /// The state of an update: what is pending, who runs what, the stamps of the files, what was bad and why it stops.
 #[derive(Drop)]
 pub struct Core {
-    generated: BTreeSet<Path>,
+    /// The outputs of all rules.
+    generated: Outputs,
     /// What each rule of the reach declares.
     inputs: Vec<Inputs>,
     waiting: Waiting,
@@ -68,7 +67,7 @@ impl Core {
         let rules = plan.rules.as_slice();
         let pending = reached(alloc, plan)?;
         Ok(Core {
-            generated: generated(alloc, rules)?,
+            generated: Outputs::of(plan),
             inputs: inputs_of_all(alloc, rules, &pending)?,
             waiting: Waiting::new(alloc, rules, plan.reach.as_slice(), &pending)?,
             files: FileStamps::new(alloc, files, plan)?,
@@ -116,13 +115,17 @@ impl Core {
         match event {
             CoreEvent::Claim { seat, rule } => self.claim(alloc, plan, *seat, *rule),
             CoreEvent::Ask { seat, text, answer } => {
+                self.note_ask(alloc, plan);
                 self.ask(alloc, plan, *seat, text, *answer, seen)
             }
             CoreEvent::Deny {
                 seat,
                 text,
                 verdict,
-            } => self.deny(alloc, plan, *seat, text, verdict),
+            } => {
+                self.note_ask(alloc, plan);
+                self.deny(alloc, plan, *seat, text, verdict)
+            }
             CoreEvent::Finish {
                 seat,
                 verdict,
@@ -130,6 +133,14 @@ impl Core {
             } => self.finish(plan, *seat, verdict, writes),
             CoreEvent::Stop { seat, cause } => self.stop(plan, *seat, *cause),
         }
+    }
+
+    /// A command asks once more: whoever is asked often makes the set of all outputs, if there is memory.
+    fn note_ask(&mut self, alloc: Global, plan: &Plan)
+        ensures core { IsCore plan.now self.old → IsCore plan.now self.new }
+        ensures rest { self.new ≡ record self.old { generated = self.new.generated } }
+    {
+        self.generated.note_ask(alloc, plan.rules.as_slice());
     }
 
     fn claim(&mut self, alloc: Global, plan: &Plan, seat: u32, rule: u32) -> Result<(), CoreFault>
@@ -211,7 +222,7 @@ impl Core {
             return Ok(false);
         };
         let rule = &plan.rules.as_slice()[running.rule as usize];
-        match self.access(alloc, rule, running, text)? {
+        match self.access(alloc, plan, rule, running, text)? {
             Access::Yes(path) => Ok(same_answer(&self.told(rule, &path, seen), &answer)),
             Access::No(_) => Ok(false),
         }
@@ -236,7 +247,7 @@ impl Core {
             return Ok(false);
         };
         let rule = &plan.rules.as_slice()[running.rule as usize];
-        match self.access(alloc, rule, running, text)? {
+        match self.access(alloc, plan, rule, running, text)? {
             Access::Yes(_) => Ok(false),
             Access::No(given) => Ok(same_verdict(&given, verdict)),
         }
@@ -259,41 +270,45 @@ impl Core {
     fn access(
         &self,
         alloc: Global,
+        plan: &Plan,
         rule: &Rule,
         running: &Running,
         text: &Text,
     ) -> Result<Access, CoreFault>
-        ensures ok { (rules : List RuleValue) → IsGenerated rules self.now.generated
+        ensures ok { AreOutputs plan.now.rules self.now.generated
             → ((inputs : InputsValue)
             → slice_get self.now.inputs.items running.now.rule ≡ Some inputs
             → AreInputs rule.now inputs)
             → IfOk result (λ given. given
-            ≡ access_of rules rule.now (length running.now.asks) text.now) }
+            ≡ access_of plan.now.rules rule.now (length running.now.asks) text.now) }
         ensures memory { IfErr result (λ fault. fault ≡ CoreFault.Memory) }
     {
         match self.inputs.get(running.rule as usize) {
-            Some(inputs) => self.access_by(alloc, rule, inputs, running, text),
-            None => self.access_by(alloc, rule, &Inputs::few(), running, text),
+            Some(inputs) => self.access_by(alloc, plan, rule, inputs, running, text),
+            None => self.access_by(alloc, plan, rule, &Inputs::few(), running, text),
         }
     }
 
-    /// The same, where this is what the rule declares.
+    /// The same, where `inputs` is what the rule declares.
     fn access_by(
         &self,
         alloc: Global,
+        plan: &Plan,
         rule: &Rule,
         inputs: &Inputs,
         running: &Running,
         text: &Text,
     ) -> Result<Access, CoreFault>
-        ensures ok { (rules : List RuleValue) → IsGenerated rules self.now.generated
+        ensures ok { AreOutputs plan.now.rules self.now.generated
             → AreInputs rule.now inputs.now → IfOk result (λ given. given
-            ≡ access_of rules rule.now (length running.now.asks) text.now) }
+            ≡ access_of plan.now.rules rule.now (length running.now.asks) text.now) }
         ensures memory { IfErr result (λ fault. fault ≡ CoreFault.Memory) }
     {
         // whoever asked as often may ask no more
         let asked = running.asks.len().min(MAX_ASKS as usize) as u32;
-        Ok(allowed(alloc, rule, inputs, &self.generated, text, asked)?)
+        let rules = plan.rules.as_slice();
+        let made = &self.generated;
+        Ok(made.access(alloc, rules, rule, inputs, text, asked)?)
     }
 
     /// What a rule's command is answered for a path that had this stamp at the opening.

@@ -107,7 +107,7 @@ impl Core {
             → given ≡ access_of plan.now.rules rule (length running.now.asks) text.now) }
     {
         let rule = &plan.rules.as_slice()[running.rule as usize];
-        match self.access(alloc, rule, running, text) {
+        match self.access(alloc, plan, rule, running, text) {
             Ok(given) => Ok(given),
             Err(_) => Err(AllocError),
         }

@@ -14,7 +14,7 @@ told-requires c =
     let placed = rule_got c.args.plan.now.rules c.as_slice.result.now c.in-Some.running.now.rule c.index-as_slice-running.result c.as_slice.ensures within c.index-as_slice-running.is in
     c.requires.seen c.in-Some.running.now c.index-as_slice-running.result c.in-Yes.path
     (seat_runs c.args.plan.now c.args.self.now c.args.seat c.in-Some.running.now c.index-as_slice-running.result c.requires.core c.in-Some.ensures.0 placed)
-    (sym (c.in_ok-path.ensures.ok c.args.plan.now.rules c.requires.core.generated (λ inputs here. c.requires.core.inputs c.in-Some.running.now.rule c.index-as_slice-running.result inputs placed here)) ∙ c.in-Yes.is)
+    (sym (c.in_ok-path.ensures.ok c.requires.core.generated (λ inputs here. c.requires.core.inputs c.in-Some.running.now.rule c.index-as_slice-running.result inputs placed here)) ∙ c.in-Yes.is)
 
 pub returns-in-Yes-clause-ok : goal.returns-in-Yes-clause-ok
 returns-in-Yes-clause-ok c =
@@ -22,7 +22,7 @@ returns-in-Yes-clause-ok c =
     let placed = rule_got c.args.plan.now.rules c.as_slice.result.now c.in-Some.running.now.rule c.index-as_slice-running.result c.as_slice.ensures within c.index-as_slice-running.is in
     let asking : IsAsking c.args.plan.now c.args.self.now c.args.seat c.in-Some.running.now c.index-as_slice-running.result = record { here = c.in-Some.ensures.0; going = c.in-Some.ensures.1; placed = placed } in
     ask_yes c.args.plan.now c.args.self.now c.args.seat c.in-Some.running.now c.index-as_slice-running.result c.in-Yes.path c.args.text.now c.args.answer c.same_answer.result c.requires.core asking
-    (sym (c.in_ok-path.ensures.ok c.args.plan.now.rules c.requires.core.generated (λ inputs here. c.requires.core.inputs c.in-Some.running.now.rule c.index-as_slice-running.result inputs placed here)) ∙ c.in-Yes.is)
+    (sym (c.in_ok-path.ensures.ok c.requires.core.generated (λ inputs here. c.requires.core.inputs c.in-Some.running.now.rule c.index-as_slice-running.result inputs placed here)) ∙ c.in-Yes.is)
     (λ up. sym c.told.ensures ∙ c.same_answer.ensures.0 up, λ same. c.same_answer.ensures.1 (c.told.ensures ∙ same))
 
 pub returns-clause-ok : goal.returns-clause-ok
@@ -32,7 +32,7 @@ returns-clause-ok c =
     let asking : IsAsking c.args.plan.now c.args.self.now c.args.seat c.in-Some.running.now c.index-as_slice-running.result = record { here = c.in-Some.ensures.0; going = c.in-Some.ensures.1; placed = placed } in (
       λ e. absurd (false≢true e),
       λ can. absurd (ask_no c.args.plan.now c.args.self.now c.args.seat c.in-Some.running.now c.index-as_slice-running.result _ c.args.text.now c.args.answer asking
-          (sym (c.in_ok-path.ensures.ok c.args.plan.now.rules c.requires.core.generated (λ inputs here. c.requires.core.inputs c.in-Some.running.now.rule c.index-as_slice-running.result inputs placed here)) ∙ c.in-No.is) can),
+          (sym (c.in_ok-path.ensures.ok c.requires.core.generated (λ inputs here. c.requires.core.inputs c.in-Some.running.now.rule c.index-as_slice-running.result inputs placed here)) ∙ c.in-No.is) can),
     )
 
 pub returns-in_err-path-clause-asks : goal.returns-in_err-path-clause-asks

@@ -15,7 +15,7 @@ returns-in-Yes-clause-ok c =
     let asking : IsAsking c.args.plan.now c.args.self.now c.args.seat c.in-Some.running.now c.index-as_slice-running.result = record { here = c.in-Some.ensures.0; going = c.in-Some.ensures.1; placed = placed } in (
       λ e. absurd (false≢true e),
       λ can. absurd (deny_yes c.args.plan.now c.args.self.now c.args.seat c.in-Some.running.now c.index-as_slice-running.result _ c.args.verdict.now c.args.text.now asking
-          (sym (c.in_ok-access.ensures.ok c.args.plan.now.rules c.requires.generated (λ inputs here. c.requires.inputs c.in-Some.running.now.rule c.index-as_slice-running.result inputs placed here)) ∙ c.in-Yes.is) can),
+          (sym (c.in_ok-access.ensures.ok c.requires.generated (λ inputs here. c.requires.inputs c.in-Some.running.now.rule c.index-as_slice-running.result inputs placed here)) ∙ c.in-Yes.is) can),
     )
 
 pub returns-clause-ok : goal.returns-clause-ok
@@ -24,7 +24,7 @@ returns-clause-ok c =
     let placed = rule_got c.args.plan.now.rules c.as_slice.result.now c.in-Some.running.now.rule c.index-as_slice-running.result c.as_slice.ensures within c.index-as_slice-running.is in
     let asking : IsAsking c.args.plan.now c.args.self.now c.args.seat c.in-Some.running.now c.index-as_slice-running.result = record { here = c.in-Some.ensures.0; going = c.in-Some.ensures.1; placed = placed } in
     deny_no c.args.plan.now c.args.self.now c.args.seat c.in-Some.running.now c.index-as_slice-running.result c.in-No.given c.args.verdict.now c.args.text.now c.same_verdict.result c.requires asking
-    (sym (c.in_ok-access.ensures.ok c.args.plan.now.rules c.requires.generated (λ inputs here. c.requires.inputs c.in-Some.running.now.rule c.index-as_slice-running.result inputs placed here)) ∙ c.in-No.is) c.same_verdict.ensures
+    (sym (c.in_ok-access.ensures.ok c.requires.generated (λ inputs here. c.requires.inputs c.in-Some.running.now.rule c.index-as_slice-running.result inputs placed here)) ∙ c.in-No.is) c.same_verdict.ensures
 
 pub returns-in_err-access-clause-asks : goal.returns-in_err-access-clause-asks
 returns-in_err-access-clause-asks c =

@@ -1,7 +1,6 @@
 use Rattle.std.proofs.Common.{Bool, List, Option, None, length, replicate, false, ◌∙◌, ap, subst, sym, refl}
 use Rattle.std.specs.FinMap as finite
 use Rattle.tup_rule.specs.declared.rule.Rule.{Rule}
-use Rattle.tup_access.specs.Generated.{IsGenerated}
 use Rattle.tup_access.specs.Inputs.{AreInputsOfAll}
 use Rattle.tup_access.specs.declared.verdict.Verdict.{Verdict}
 use Rattle.tup_core.specs.Links.{IsReachOf}
@@ -17,7 +16,7 @@ new-requires-clause-reach c =
     (subst (IsReachOf c.args.plan.now.rules c.in_ok-pending.pending.items) (sym c.as_slice.ensures) (reach_of c.args.plan.now c.in_ok-pending.pending.items c.requires c.in_ok-pending.ensures.flags)))
 
 made : (c : goal.In_ok-nothing-2) → IsOpening c.args.plan.now (finite.entries c.args.files.now) (record {
-  generated = c.in_ok-generated.field-0;
+  generated = c.of.result;
   inputs = c.in_ok-inputs_of_all.field-0;
   waiting = c.in_ok-new.field-0;
   pending = c.in_ok-pending.pending;
@@ -36,7 +35,7 @@ made c = record {
   claimed = c.in_ok-lowered.ensures ∙ ap (λ (r : List Rule). replicate (length r) false) c.as_slice-rules.ensures;
   seats = c.in_ok-nothing.ensures;
   bad = c.in_ok-nothing-2.ensures ∙ ap (λ (r : List Rule). replicate (length r) (let none : Option Verdict = None in none)) c.as_slice-rules.ensures;
-  generated = subst (λ (r : List Rule). IsGenerated r c.in_ok-generated.field-0) c.as_slice-rules.ensures c.in_ok-generated.ensures;
+  generated = c.of.ensures c.args.plan.now.rules;
   inputs = subst (λ (r : List Rule). AreInputsOfAll r c.in_ok-inputs_of_all.field-0.items) c.as_slice-rules.ensures c.in_ok-inputs_of_all.ensures;
   files_in = λ path. c.in_ok-new-2.ensures.stamps path ∙ sym (stamps_of_entries c.args.files.now path);
   room = c.in_ok-new-2.ensures.room;
