@@ -909,6 +909,16 @@ for i in $inputs; do echo "$i" > "$i"; done
 same "a rule with 200 inputs" "$(timeout 60 "$tup" upd | tail -1)" 'done: 1 read, 1 run, 0 removed'
 same "all of them in order" "$(tr '\n' ' ' < b)" "$inputs"
 
+# A first update of 8,000 rules takes half a second of a processor. One that copied all rules for each of them took twenty; it
+# would be killed here.
+folder
+"$tup" init --no-sync > /dev/null
+for folder in 1 2 3 4 5 6 7 8; do
+    mkdir "d$folder"
+    awk 'BEGIN { for (i = 1; i <= 1000; i++) printf ": |> echo %d > o%d |> o%d\n", i, i, i }' > "d$folder/Tupfile"
+done
+same "8,000 rules" "$( (ulimit -t 5 && exec "$tup" --quiet -j 1) | tail -1)" 'done: 8 read, 8000 run, 0 removed'
+
 if [ "$(id -u)" = 0 ] && mkdir "$work/small" && mount -t tmpfs -o size=64k none "$work/small" 2> /dev/null; then
     cd "$work/small" || exit 1
     head -c 24576 /dev/zero > a
