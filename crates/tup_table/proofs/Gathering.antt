@@ -1,6 +1,6 @@
 -- Changes that are gathered one after another, and put in order at once.
 use Rattle.std.specs.Prelude.{◌≡◌, ℕ, ◌+◌, Bool, true, false, cond, not, ◌&&◌, List, [], ◌∷◌, ◌++◌, Option, Some, None}
-use Rattle.std.proofs.Common.{refl, sym, ap, subst, ◌∙◌, zero-add}
+use Rattle.std.proofs.Common.{refl, sym, ap, subst, ◌∙◌, zero-add, append_assoc, append-nil}
 use Rattle.std.proofs.lemmas.Cmp.{nat_cmp_total, nat_list_cmp_total, tied_itself}
 use Rattle.std.proofs.lemmas.Bool.{false≢true}
 use Rattle.std.proofs.lemmas.Option.{none-some, same_Some}
@@ -15,7 +15,7 @@ use Rattle.tup_path.specs.Order.{by_bytes}
 use Rattle.tup_table.specs.Compact.{EntriesFit, size_in, size_of}
 use Rattle.tup_table.specs.Entries.{Standing, IsAscending, changed}
 use Rattle.tup_table.specs.KeyFronts.{AreByFronts, front_of}
-use Rattle.tup_table.specs.Slots.{Slots, gathered, in_front, slot_of, standing}
+use Rattle.tup_table.specs.Slots.{Slots, gathered, in_front, slot_of, standing, IsReplaced, LeaveAlike}
 use Rattle.tup_table.specs.Spelling.{ChangeFits}
 use Rattle.tup_table.specs.declared.change.Change.{Change}
 use Rattle.tup_table.specs.declared.change.Change.TheVariants.{Put, Delete}
@@ -137,11 +137,51 @@ by_fronts_same slots sorted stable q =
     ∙ ap (λ (kept : Slots). update_all (eq_by_cmp by_bytes) (λ _. None) kept q) (stable (q, None))
     ∙ sym (only_kept (of_front q) q (same_front q) slots (λ _. None) (λ _. None) refl)
 
--- a map that is made of slots by their fronts has them in order, the last one of each key
-pub made_of : (slots sorted : Slots) → AreByFronts slots sorted → (made : BTreeMap (List ℕ) (Option Entry)) → IsFromIterResult by_bytes sorted made → made.entries ≡ gathered [] slots
-made_of slots sorted stable made is =
+-- ---- slots without those that are replaced
+-- what slots leave under a key is by what stood there before
+alike_from : (slots : Slots) (f g : List ℕ → Option (Option Entry)) (q : List ℕ) → f q ≡ g q → update_all (eq_by_cmp by_bytes) f slots q ≡ update_all (eq_by_cmp by_bytes) g slots q
+alike_from [] f g q same = same
+alike_from (s ∷ slots) f g q same =
+    alike_from slots (λ r. cond (eq_by_cmp by_bytes s.0 r) (Some s.1) (f r)) (λ r. cond (eq_by_cmp by_bytes s.0 r) (Some s.1) (g r)) q
+    (ap (λ (found : Option (Option Entry)). cond (eq_by_cmp by_bytes s.0 q) (Some s.1) found) same)
+
+cond_twice : {A : Type 0} (b : Bool) (x y z : A) → cond b x (cond b y z) ≡ cond b x z
+cond_twice true x y z = refl
+cond_twice false x y z = refl
+
+-- a slot that is replaced leaves nothing
+replaced : (slot : List ℕ × Option Entry) (behind : Slots) → IsReplaced slot behind → LeaveAlike (slot ∷ behind) behind
+replaced slot [] none = absurd none
+replaced slot (next ∷ behind) same = λ before q.
+    alike_from behind (λ r. cond (eq_by_cmp by_bytes next.0 r) (Some next.1) (cond (eq_by_cmp by_bytes slot.0 r) (Some slot.1) (before r))) (λ r. cond (eq_by_cmp by_bytes next.0 r) (Some next.1) (before r)) q
+    (ap (λ (k : List ℕ). cond (eq_by_cmp by_bytes next.0 q) (Some next.1) (cond (eq_by_cmp by_bytes k q) (Some slot.1) (before q))) (sym same) ∙ cond_twice (eq_by_cmp by_bytes next.0 q) (Some next.1) (Some slot.1) (before q))
+
+in_turn : (kept behind : Slots) (before : List ℕ → Option (Option Entry)) (q : List ℕ)
+    → update_all (eq_by_cmp by_bytes) before (kept ++ behind) q ≡ update_all (eq_by_cmp by_bytes) (update_all (eq_by_cmp by_bytes) before kept) behind q
+in_turn [] behind before q = refl
+in_turn (s ∷ kept) behind before q = in_turn kept behind (λ r. cond (eq_by_cmp by_bytes s.0 r) (Some s.1) (before r)) q
+
+pub one_left_out : (kept behind : Slots) (slot : List ℕ × Option Entry) → IsReplaced slot behind → LeaveAlike (kept ++ behind) (kept ++ slot ∷ behind)
+one_left_out kept behind slot is = λ before q.
+    in_turn kept behind before q ∙ sym (replaced slot behind is (update_all (eq_by_cmp by_bytes) before kept) q) ∙ sym (in_turn kept (slot ∷ behind) before q)
+
+pub one_kept : (kept behind new : Slots) (slot copy : List ℕ × Option Entry) → copy ≡ slot → new ≡ kept ++ copy ∷ [] → LeaveAlike (new ++ behind) (kept ++ slot ∷ behind)
+one_kept kept behind new slot copy same pushed = λ before q.
+    ap (λ (slots : Slots). update_all (eq_by_cmp by_bytes) before slots q) (ap (λ (slots : Slots). slots ++ behind) pushed ∙ append_assoc kept (copy ∷ []) behind ∙ ap (λ (s : List ℕ × Option Entry). kept ++ s ∷ behind) same)
+
+pub one_passed : (kept behind new rest all : Slots) (slot : List ℕ × Option Entry) → rest ≡ slot ∷ behind → LeaveAlike (kept ++ rest) all → LeaveAlike (new ++ behind) (kept ++ slot ∷ behind) → LeaveAlike (new ++ behind) all
+one_passed kept behind new rest all slot first so_far alike = λ before q.
+    alike before q ∙ ap (λ (slots : Slots). update_all (eq_by_cmp by_bytes) before (kept ++ slots) q) (sym first) ∙ so_far before q
+
+pub all_passed : (kept rest all : Slots) → rest ≡ [] → LeaveAlike (kept ++ rest) all → LeaveAlike kept all
+all_passed kept rest all none so_far = λ before q.
+    ap (λ (slots : Slots). update_all (eq_by_cmp by_bytes) before slots q) (sym (append-nil kept) ∙ ap (λ (slots : Slots). kept ++ slots) (sym none)) ∙ so_far before q
+
+-- a map that is made of slots by their fronts, but for some that are replaced, has them in order, the last one of each key
+pub made_of : (slots sorted kept : Slots) → AreByFronts slots sorted → LeaveAlike kept sorted → (made : BTreeMap (List ℕ) (Option Entry)) → IsFromIterResult by_bytes kept made → made.entries ≡ gathered [] slots
+made_of slots sorted kept stable alike made is =
     same_slots made.entries (gathered [] slots) (ascends made.entries is.1) (gathered_ascends [] slots tt)
-    (λ q. is.0 q ∙ by_fronts_same slots sorted stable q ∙ sym (lookups [] slots (λ _. None) (λ r. refl) q))
+    (λ q. is.0 q ∙ alike (λ _. None) q ∙ by_fronts_same slots sorted stable q ∙ sym (lookups [] slots (λ _. None) (λ r. refl) q))
 
 -- ---- sizes
 size_front : (key : List ℕ) (slot : Option Entry) (more : Standing) → size_of (in_front key slot more) ≡ size_in key slot + size_of more

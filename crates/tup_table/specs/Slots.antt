@@ -3,7 +3,8 @@
 use Rattle.std.specs.Prelude.{◌≡◌, ℕ, ◌≤◌, true, List, [], ◌∷◌, Option, Some, None, is_some}
 use Rattle.std.specs.BTreeMap.{insert_entry, is_at}
 use Rattle.std.specs.List.{AllByRecursion}
-use Rattle.std.specs.Map.{lookup}
+use Rattle.std.specs.Map.{lookup, update_all}
+use Rattle.std.specs.Ordering.{eq_by_cmp}
 use Rattle.tup_path.specs.Order.{by_bytes}
 use Rattle.tup_table.specs.declared.change.Change.{Change}
 use Rattle.tup_table.specs.declared.change.Change.TheVariants.{Put, Delete}
@@ -39,6 +40,20 @@ gathered slots (slot ∷ more) = gathered (insert_entry by_bytes slots slot.0 sl
 abbrev pub slot_of : ℕ → Change → List ℕ × Option Entry
 slot_of origin (Put key value) = (key, Some (record { value = value; origin = origin }))
 slot_of origin (Delete key) = (key, None)
+
+-- the change that puts this value under a key, or deletes the key where there is none
+abbrev pub change_with : List ℕ → Option (List ℕ) → Change
+change_with key None = Delete key
+change_with key (Some value) = Put key value
+
+-- a slot has the key of the next one
+abbrev pub IsReplaced : List ℕ × Option Entry → Slots → Type 0
+IsReplaced slot [] = ⊥
+IsReplaced slot (next ∷ behind) = next.0 ≡ slot.0
+
+-- once they are filled one after another, slots leave the same under each key, whatever stood there before
+abbrev pub LeaveAlike : Slots → Slots → Type 0
+LeaveAlike slots others = (before : List ℕ → Option (Option Entry)) (key : List ℕ) → update_all (eq_by_cmp by_bytes) before slots key ≡ update_all (eq_by_cmp by_bytes) before others key
 
 -- the entries of slots have spellings, and take this many bytes
 abbrev pub AreSlotsOf : ℕ → Slots → Type 0

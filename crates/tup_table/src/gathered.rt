@@ -1,17 +1,17 @@
 //! The entries of a store while it is read.
-ghost use Rattle.std.specs.Prelude.{◌≡◌, ◌+◌, ◌≤◌, [], length, OnOk, IfOk, IfErr, MatchResult};
+ghost use Rattle.std.specs.Prelude.{◌≡◌, ◌+◌, ◌≤◌, [], ◌∷◌, ◌++◌, length, IsTrue, OnOk, IfOk, IfErr, MatchResult};
 ghost use Rattle.std.specs.BTreeMap.{IsOrdered};
 ghost use Rattle.tup_path.specs.Order.{by_bytes};
 ghost use Rattle.tup_table.specs.Compact.{size_in, size_of};
 ghost use Rattle.tup_table.specs.Entries.{changed};
 ghost use Rattle.tup_table.specs.KeyFronts.{AreByFronts, front_by as front_of_first, front_of};
-ghost use Rattle.tup_table.specs.Slots.{gathered, slot_of as slot_by, standing};
+ghost use Rattle.tup_table.specs.Slots.{gathered, IsReplaced, LeaveAlike, standing};
 ghost use Rattle.tup_table.specs.Spelling.{ChangeFits};
 
-use crate::change::Change;
 use crate::entries::Entries;
 use crate::entry::Entry;
 use crate::fault::TableFault;
+use crate::seen::{Seen, SeenSlot};
 use crate::size::with;
 use crate::slots::Slots;
 use byteorder::{BigEndian, ByteOrder};
@@ -20,13 +20,14 @@ use std::marker::Model;
 use tup_path::{Bytes, Items};
 
 /// What changes leave under their keys, in the order of the changes; of a key the last one counts. They are put in order at
-/// once, which takes far fewer comparisons than one search for each change. Contracts see the entries that they leave.
+/// once, which takes far fewer comparisons than one search for each change, and copied once they are in order. Contracts see
+/// the entries that they leave.
 #[derive(Drop)]
-pub(crate) struct Gathered {
-    slots: Items<(Bytes, Option<Entry>)>,
+pub(crate) struct Gathered<'a> {
+    slots: Items<SeenSlot<'a>>,
 }
 
-impl Model for Gathered {
+impl<'a> Model for Gathered<'a> {
     ghost use Rattle.std.specs.Prelude.{List, ℕ, []};
     ghost use Rattle.tup_table.specs.Compact.{EntriesFit};
     ghost use Rattle.tup_table.specs.Slots.{gathered, standing};
@@ -39,9 +40,9 @@ impl Model for Gathered {
     ghost invariant = { λ g. EntriesFit (standing (gathered [] g.slots)) };
 }
 
-impl Gathered {
+impl<'a> Gathered<'a> {
     /// No changes; it takes no memory.
-    pub(crate) fn new(alloc: Global) -> Gathered
+    pub(crate) fn new(alloc: Global) -> Gathered<'a>
         ensures { result ≡ [] }
     {
         Gathered {
@@ -50,19 +51,19 @@ impl Gathered {
     }
 
     /// Takes in a change of the commit behind the gate at an offset.
-    pub(crate) fn apply(&mut self, change: Change, origin: u64) -> Result<(), TableFault>
+    pub(crate) fn apply(&mut self, change: Seen<'a>, origin: u64) -> Result<(), TableFault>
         requires { ChangeFits change }
-        ensures ok { OnOk result (self.new ≡ changed origin self.old change) }
+        ensures ok { OnOk result (self.new ≡ changed origin self.old change.entry) }
         ensures err { IfErr result (λ fault. fault ≡ TableFault.Memory) }
     {
-        self.slots.push(slot_of(change, origin))?;
+        self.slots.push(SeenSlot { change, origin })?;
         Ok(())
     }
 
     /// The entries that the changes leave.
     pub(crate) fn into_entries(self, alloc: Global) -> Result<Entries, TableFault>
         ensures { MatchResult result
-            (λ entries. entries ≡ self) (λ fault. fault ≡ TableFault.Memory) }
+            (λ entries. entries ≡ self.entry) (λ fault. fault ≡ TableFault.Memory) }
     {
         let slots = in_order(alloc, self.slots.into_vec())?;
         let size = size_taken(&slots)?;
@@ -70,34 +71,67 @@ impl Gathered {
     }
 }
 
-/// The key of a change of the commit behind the gate at an offset, and what the change leaves there.
-fn slot_of(change: Change, origin: u64) -> (Bytes, Option<Entry>)
-    ensures { result ≡ slot_by origin change }
-{
-    match change {
-        Change::Put { key, value } => (key, Some(Entry { value, origin })),
-        Change::Delete { key } => (key, None),
-    }
-}
-
 /// Slots in the byte order of keys, the last one of each key. Most are in order once their fronts are, which are compared as
 /// numbers.
-fn in_order(alloc: Global, slots: Vec<(Bytes, Option<Entry>)>) -> Result<Slots, AllocError>
-    ensures entries { IfOk result (λ map. map.entries ≡ gathered [] slots.items) }
+fn in_order(alloc: Global, slots: Vec<SeenSlot<'_>>) -> Result<Slots, AllocError>
+    ensures entries { IfOk result (λ map. map.entries ≡ gathered [] slots.entry.items) }
     ensures ordered { IfOk result (IsOrdered by_bytes) }
 {
     let sorted = by_fronts(slots)?;
-    sorted.into_iter().collect(alloc)
+    let kept = last_copied(alloc, sorted.as_slice())?;
+    drop(sorted);
+    kept.into_iter().collect(alloc)
 }
 
 /// Slots in the order of the fronts of their keys; those of one front stay in their order.
-fn by_fronts(
-    mut slots: Vec<(Bytes, Option<Entry>)>,
-) -> Result<Vec<(Bytes, Option<Entry>)>, AllocError>
-    ensures { IfOk result (λ sorted. AreByFronts slots.items sorted.items) }
+fn by_fronts(mut slots: Vec<SeenSlot<'_>>) -> Result<Vec<SeenSlot<'_>>, AllocError>
+    ensures { IfOk result (λ sorted. AreByFronts slots.entry.items sorted.items) }
 {
-    slots.sort_by_cached_key(|slot| front(slot.0.as_slice()))?;
+    slots.sort_by_cached_key(|slot| front(slot.key()))?;
     Ok(slots)
+}
+
+/// Slots copied, but for those that the next one replaces.
+fn last_copied(
+    alloc: Global,
+    slots: &[SeenSlot<'_>],
+) -> Result<Vec<(Bytes, Option<Entry>)>, AllocError>
+    ensures { IfOk result (λ kept. LeaveAlike kept.items slots.now) }
+{
+    let mut kept = Vec::with_capacity(alloc, slots.len())?;
+    let mut at = 0;
+    'left: while at < slots.len() {
+        keep(alloc, &mut kept, &slots[at], &slots[at + 1..])?;
+        at += 1;
+    }
+    Ok(kept)
+}
+
+/// Adds a slot, unless it is replaced by the first of those behind it.
+fn keep(
+    alloc: Global,
+    kept: &mut Vec<(Bytes, Option<Entry>)>,
+    slot: &SeenSlot<'_>,
+    behind: &[SeenSlot<'_>],
+) -> Result<(), AllocError>
+    ensures { OnOk result
+        (LeaveAlike (kept.new.items ++ behind.now) (kept.old.items ++ slot.now ∷ behind.now)) }
+{
+    if is_replaced(slot, behind) {
+        return Ok(());
+    }
+    kept.push(slot.copied(alloc)?)?;
+    Ok(())
+}
+
+/// Whether a slot is replaced by the next one.
+fn is_replaced(slot: &SeenSlot<'_>, behind: &[SeenSlot<'_>]) -> bool
+    ensures { IsTrue result → IsReplaced slot.now behind.now }
+{
+    match behind.first() {
+        Some(next) => next.key() == slot.key(),
+        None => false,
+    }
 }
 
 /// The front of a key: its first 16 bytes as a number, or all of them with as many zeros behind them as there are less.

@@ -28,6 +28,7 @@ mod opened;
 mod opening;
 mod reader;
 mod reading;
+mod seen;
 mod size;
 mod sized;
 mod slots;

@@ -10,16 +10,15 @@ ghost use Rattle.tup_table.specs.declared.change.Change.{Change};
 ghost use Rattle.tup_table.specs.declared.fault.TableFault.{TableFault};
 ghost use Rattle.tup_table.specs.declared.opened.Opened.{Opened};
 
-use crate::change::Change;
 use crate::compacting::snapshot_of;
 use crate::fault::TableFault;
 use crate::found::Found;
 use crate::gathered::Gathered;
 use crate::opened::Opened;
 use crate::reader::Reader;
+use crate::seen::Seen;
 use byteorder::{BigEndian, ByteOrder};
 use std::alloc::Global;
-use tup_path::Bytes;
 
 /// How a store begins; the last byte is the version.
 const FIRST_BYTES: [u8; 8] = *b"tup-db2\x01";
@@ -158,7 +157,7 @@ pub(crate) fn read_area(alloc: Global, start: u64, area: &[u8]) -> Result<Opened
     let mut rest = area;
     'commits: while let Some(block) = behind_gate(rest) {
         let done = passed(area, rest);
-        rest = take_commit(alloc, &mut entries, LOW + done, start + done, block)?;
+        rest = take_commit(&mut entries, LOW + done, start + done, block)?;
     }
     let gate = start + passed(area, rest);
     let entries = entries.into_entries(alloc)?;
@@ -187,8 +186,7 @@ fn behind_gate(bytes: &[u8]) -> Option<&[u8]>
 /// Takes in the commit behind the gate at an offset, with another offset as the origin of its changes, and gives what stands
 /// behind it. After a refusal the entries are of no use.
 fn take_commit<'a>(
-    alloc: Global,
-    entries: &mut Gathered,
+    entries: &mut Gathered<'a>,
     origin: u64,
     gate: u64,
     block: &'a [u8],
@@ -203,18 +201,17 @@ fn take_commit<'a>(
     let Some(payload) = reader.long() else {
         return Err(TableFault::BadStore { offset: gate });
     };
-    take_changes(alloc, entries, origin, gate, payload)?;
+    take_changes(entries, origin, gate, payload)?;
     Ok(reader.rest())
 }
 
 /// Takes in the changes of the commit behind the gate at an offset, all of these bytes, with another offset as their origin.
 /// After a refusal the entries are of no use.
-fn take_changes(
-    alloc: Global,
-    entries: &mut Gathered,
+fn take_changes<'a>(
+    entries: &mut Gathered<'a>,
     origin: u64,
     gate: u64,
-    payload: &[u8],
+    payload: &'a [u8],
 ) -> Result<(), TableFault>
     ensures { MatchResult result
         (λ _. (changes : List Change) × ChangesFit changes × (payload.now ≡ payload_of changes)
@@ -224,7 +221,7 @@ fn take_changes(
 {
     let mut reader = Reader::new(payload);
     'changes: while !reader.is_done() {
-        let Some(change) = next_change(alloc, &mut reader)? else {
+        let Some(change) = next_change(&mut reader) else {
             return Err(TableFault::BadStore { offset: gate });
         };
         entries.apply(change, origin)?;
@@ -233,31 +230,35 @@ fn take_changes(
 }
 
 /// The change at the front of the bytes, if one is there.
-fn next_change(alloc: Global, reader: &mut Reader<'_>) -> Result<Option<Change>, TableFault>
-    ensures { MatchResult result
-        (λ found. MatchOption found (NoFront ChangeFits change_spelling reader.old)
-        (λ change. Front ChangeFits change_spelling reader.old change reader.new))
-        (λ fault. fault ≡ TableFault.Memory) }
+fn next_change<'a>(reader: &mut Reader<'a>) -> Option<Seen<'a>>
+    ensures { MatchOption result (NoFront ChangeFits change_spelling reader.old)
+        (λ change. Front ChangeFits change_spelling reader.old change reader.new) }
 {
-    match reader.byte() {
-        Some(1) => {
-            let Some(key) = reader.short() else {
-                return Ok(None);
-            };
-            let Some(value) = reader.long() else {
-                return Ok(None);
-            };
-            let key = Bytes::new(Vec::from_slice(alloc, key)?);
-            let value = Bytes::new(Vec::from_slice(alloc, value)?);
-            Ok(Some(Change::Put { key, value }))
-        }
-        Some(2) => {
-            let Some(key) = reader.short() else {
-                return Ok(None);
-            };
-            let key = Bytes::new(Vec::from_slice(alloc, key)?);
-            Ok(Some(Change::Delete { key }))
-        }
-        _ => Ok(None),
+    match reader.byte()? {
+        1 => next_put(reader),
+        2 => next_delete(reader),
+        _ => None,
     }
+}
+
+/// The change behind the mark 1.
+fn next_put<'a>(reader: &mut Reader<'a>) -> Option<Seen<'a>>
+    ensures { MatchOption result (NoFront ChangeFits change_spelling (1 ∷ reader.old))
+        (λ change. Front ChangeFits change_spelling (1 ∷ reader.old) change reader.new) }
+{
+    let key = reader.short()?;
+    let value = reader.long()?;
+    Some(Seen {
+        key,
+        value: Some(value),
+    })
+}
+
+/// The change behind the mark 2.
+fn next_delete<'a>(reader: &mut Reader<'a>) -> Option<Seen<'a>>
+    ensures { MatchOption result (NoFront ChangeFits change_spelling (2 ∷ reader.old))
+        (λ change. Front ChangeFits change_spelling (2 ∷ reader.old) change reader.new) }
+{
+    let key = reader.short()?;
+    Some(Seen { key, value: None })
 }
