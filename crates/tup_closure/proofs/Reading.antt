@@ -1,5 +1,5 @@
 -- The rules whose records ask a path, as a list.
-use Rattle.std.specs.Prelude.{◌≡◌, ◌↔◌, ℕ, Bool, true, false, cond, List, [], ◌∷◌, Option, None, Some, Contains, filter, map, length, is_some}
+use Rattle.std.specs.Prelude.{◌≡◌, ◌↔◌, ℕ, Bool, true, List, [], ◌∷◌, Option, None, Some, Contains, filter, map, length, is_some}
 use Rattle.std.proofs.Common.{refl, sym, ap, subst, ◌∙◌, inl, inr}
 use Rattle.std.specs.FinMap as finite
 use Rattle.std.specs.FinMap.{FinMap}
@@ -9,7 +9,6 @@ use Rattle.std.specs.List.Sorted.{IsStrictlySortedBy}
 use Rattle.std.specs.Ordering.{nat_cmp, is_lt}
 use Rattle.std.specs.declared.cmp.Ordering.TheVariants.{Less}
 use Rattle.std.proofs.lemmas.Bool.{and_parts}
-use Rattle.std.proofs.lemmas.List.Elements.{All-contains, filter_passes}
 use Rattle.std.proofs.lemmas.List.Kept.{IsStrictlySortedBy-filter}
 use Rattle.tup_path.specs.Name.{Names}
 use Rattle.tup_rule.specs.Rule.{among}
@@ -17,8 +16,8 @@ use Rattle.tup_rule.proofs.Laws.{among-decides}
 use Rattle.tup_record.specs.declared.run.RunRecord.{RunRecord}
 use Rattle.tup_graph.specs.Above.{HasAsked}
 use Rattle.tup_graph.specs.Graph.{GraphState}
-use Rattle.tup_readers.proofs.Entries.{in_front, behind_front, front_or_behind, none_in}
-use Rattle.tup_readers.proofs.Passing.{holds, less_is}
+use Rattle.tup_readers.proofs.Entries.{in_front, behind_front, front_or_behind, none_in, holds, less_is}
+use Rattle.tup_readers.proofs.Filtering.{filter_in, in_filter}
 use Rattle.tup_closure.specs.Steps.{IsListOf, asked_in, has_asked, readers_of}
 use Rattle.tup_closure.proofs.Counting.{as_long}
 use Rattle.tup_closure.proofs.Members.{listed, number-decides}
@@ -42,19 +41,6 @@ module _ {X : Type 0} where
   -- the keys of a map ascend
   pub keys_ascend : (m : FinMap nat_cmp X) → IsStrictlySortedBy nat_cmp (finite.keys m)
   keys_ascend m = ascend (finite.entries m) (holds (finite.is_sorted nat_cmp (finite.entries m)) (finite.entries_sorted m))
-
--- ---- filtered lists
-
-pub in_filter : {X : Type 0} (p : X → Bool) (xs : List X) (x : X) → Contains xs x → p x ≡ true → Contains (filter p xs) x
-in_filter p [] x h passes = absurd (none_in x h)
-in_filter p (first ∷ xs) x h passes = elim (front_or_behind first x xs h) [
-  | inl same ↦ subst (λ (b : Bool). Contains (cond b (first ∷ filter p xs) (filter p xs)) x) (sym (ap p same ∙ passes)) (subst (Contains (first ∷ filter p xs)) same (in_front first (filter p xs)))
-  | inr later ↦ either (p first) (in_filter p xs x later passes)
-]
-  where
-    either : (b : Bool) → Contains (filter p xs) x → Contains (cond b (first ∷ filter p xs) (filter p xs)) x
-    either true h = behind_front first x (filter p xs) h
-    either false h = h
 
 -- ---- the paths that a record asks
 
@@ -90,7 +76,7 @@ module _ (path : Names) where
     are_readers = record {
       ascending = IsStrictlySortedBy-filter nat_cmp (has_asked g path) (finite.keys g.runs) (keys_ascend g.runs);
       members = λ number. (
-        λ h. asked_by number (finite.get g.runs number) refl (All-contains (λ n. has_asked g path n ≡ true) (readers_of g path) number (filter_passes (has_asked g path) (finite.keys g.runs)) h),
+        λ h. asked_by number (finite.get g.runs number) refl (filter_in (has_asked g path) (finite.keys g.runs) number h).1,
         λ reads. in_filter (has_asked g path) (finite.keys g.runs) number (recorded number reads) (asks_it number reads),
       );
     }

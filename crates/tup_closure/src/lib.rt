@@ -1,9 +1,8 @@
 //! Which rules read what other rules make, by the records of their last good runs.
 //!
 //! `above` gives the rules that recorded reads lead to from some roots, over any number of reads: exactly those of the
-//! definition, in ascending order. It goes over the maps of a graph that knows who asked what, and counts its `Steps`: one for
-//! each root, and one for each rule that reads an output of a rule that it has come to. `Lists` are values in lists, one
-//! list for each path.
+//! definition, in ascending order. It asks a graph that knows who asked what, and counts its `Steps`: one for each root, and
+//! one for each rule that reads an output of a rule that it has come to. `Lists` are values in lists, one list for each path.
 #![tactic(auto)]
 
 mod count;

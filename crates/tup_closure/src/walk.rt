@@ -14,7 +14,7 @@ use std::collections::BTreeSet;
 use std::sync::ledger::Ledger;
 use tup_graph::{GraphFault, Nodes};
 use tup_path::{Items, Path};
-use tup_readers::{Finder, Indexed};
+use tup_readers::Indexed;
 
 /// The roots, and the rules that recorded reads lead to from them, over any number of reads, in ascending order: each rule
 /// whose record asks an output of one of them, each that asks an output of such a one, and so on.
@@ -41,9 +41,8 @@ pub fn above<L: Ledger>(
 {
     let mut walk = Walk::new(alloc);
     walk.reach_roots(roots, steps)?;
-    let mut finder = Finder::of(graph);
     'rules: while let Some(number) = walk.waiting.pop() {
-        walk.visit(alloc, &mut finder, number, steps)?;
+        walk.visit(alloc, graph, number, steps)?;
     }
     walk.numbers(alloc)
 }
@@ -105,40 +104,37 @@ impl Walk {
     fn visit<L: Ledger>(
         &mut self,
         alloc: Global,
-        finder: &mut Finder<'_>,
+        graph: &Indexed,
         number: u32,
         steps: &mut Steps<L>,
     ) -> Result<(), GraphFault>
-        ensures same { finder.new ≡ finder.old }
         ensures goes { OnOk result (GoesTo
-            (HasAskedOneOf finder.old (outputs_in finder.old number)) self.old self.new) }
+            (HasAskedOneOf graph.now (outputs_in graph.now number)) self.old self.new) }
         ensures steps { OnOk result (steps.new
-            ≡ steps.old + looks_at finder.old (outputs_in finder.old number)) }
+            ≡ steps.old + looks_at graph.now (outputs_in graph.now number)) }
         ensures fewer { OnErr result (steps.new
-            ≤ steps.old + looks_at finder.old (outputs_in finder.old number)) }
+            ≤ steps.old + looks_at graph.now (outputs_in graph.now number)) }
         ensures memory { IfErr result (λ fault. fault ≡ GraphFault.Memory) }
     {
-        let paths = outputs_of(finder.nodes(), number);
-        self.reach_readers(alloc, finder, paths, steps)
+        self.reach_readers(alloc, graph, outputs_of(graph.nodes(), number), steps)
     }
 
     /// Comes to those who read some paths.
     fn reach_readers<L: Ledger>(
         &mut self,
         alloc: Global,
-        finder: &mut Finder<'_>,
+        graph: &Indexed,
         paths: &[Path],
         steps: &mut Steps<L>,
     ) -> Result<(), GraphFault>
-        ensures same { finder.new ≡ finder.old }
         ensures goes { OnOk result (GoesTo
-            (HasAskedOneOf finder.old paths.now) self.old self.new) }
-        ensures steps { OnOk result (steps.new ≡ steps.old + looks_at finder.old paths.now) }
-        ensures fewer { OnErr result (steps.new ≤ steps.old + looks_at finder.old paths.now) }
+            (HasAskedOneOf graph.now paths.now) self.old self.new) }
+        ensures steps { OnOk result (steps.new ≡ steps.old + looks_at graph.now paths.now) }
+        ensures fewer { OnErr result (steps.new ≤ steps.old + looks_at graph.now paths.now) }
         ensures memory { IfErr result (λ fault. fault ≡ GraphFault.Memory) }
     {
         for path in paths {
-            self.reach_readers_of(alloc, finder, path, steps)?;
+            self.reach_readers_of(alloc, graph, path, steps)?;
         }
         Ok(())
     }
@@ -147,20 +143,19 @@ impl Walk {
     fn reach_readers_of<L: Ledger>(
         &mut self,
         alloc: Global,
-        finder: &mut Finder<'_>,
+        graph: &Indexed,
         path: &Path,
         steps: &mut Steps<L>,
     ) -> Result<(), GraphFault>
-        ensures same { finder.new ≡ finder.old }
         ensures goes { OnOk result (GoesTo
-            (λ number. HasAsked finder.old number path.now) self.old self.new) }
+            (λ number. HasAsked graph.now number path.now) self.old self.new) }
         ensures steps { OnOk result (steps.new
-            ≡ steps.old + length (readers_of finder.old path.now)) }
+            ≡ steps.old + length (readers_of graph.now path.now)) }
         ensures fewer { OnErr result (steps.new
-            ≤ steps.old + length (readers_of finder.old path.now)) }
+            ≤ steps.old + length (readers_of graph.now path.now)) }
         ensures memory { IfErr result (λ fault. fault ≡ GraphFault.Memory) }
     {
-        let numbers = finder.readers_of(alloc, path)?;
+        let numbers = graph.readers_of(alloc, path)?;
         self.look_at(&numbers, steps)
     }
 

@@ -1,8 +1,6 @@
 //! What a scan found, noted in the store of a project.
-ghost use Rattle.std.specs.Prelude.{◌≡◌, IsTrue, IfErr, OnErr, OnOk};
+ghost use Rattle.std.specs.Prelude.{◌≡◌, IsTrue, OnErr, OnOk};
 ghost use Rattle.tup_site.specs.World.{TreeStays};
-ghost use Rattle.tup_table.specs.Table.{entries_in};
-ghost use Rattle.tup_graph.specs.Opening.{IsGraphOf};
 ghost use Rattle.tup_graph.specs.Scan.{IsScanned};
 ghost use Rattle.tup_stored_graph.specs.Cause.{CountsFaults};
 ghost use Rattle.tup_stored_graph.specs.Held.{is_fresh, StandsFor};
@@ -16,7 +14,7 @@ use std::sync::ledger::Ledger;
 use tup_closure::{Steps, runs_are_of_rules};
 use tup_graph::GraphFault;
 use tup_scan::Seen;
-use tup_scan_diff::{asks_for_users, scan_edits_are_read, scan_edits_leave};
+use tup_scan_diff::{scan_edits_are_read, scan_edits_leave};
 use tup_site::Site;
 use tup_stored_graph::Graph;
 
@@ -27,52 +25,6 @@ use tup_stored_graph::Graph;
 /// It takes the steps of a walk over recorded reads from the rules that are flagged or touched: one for each of these, and
 /// one for each pair of an output of a rule that it reaches and a rule that reads it. After a refusal it has taken no more.
 pub fn note_scan<S: Site, L: Ledger>(
-    alloc: Global,
-    graph: &mut Graph,
-    site: &mut S,
-    seen: &Seen,
-    steps: &mut Steps<L>,
-) -> Result<(), GraphFault>
-    requires fresh { IsTrue (is_fresh graph.old) }
-    requires stands { IsTrue S.tells
-        → StandsFor S.world S.moment S.left_since graph.old site.old }
-
-    ensures notes { NotesScan seen.now.files seen.now.config
-        graph.old graph.new site.old site.new result }
-    ensures scanned { OnOk result
-        (IsScanned graph.old.nodes seen.now.files seen.now.config graph.new.nodes) }
-    ensures fresh { OnOk result (IsTrue (is_fresh graph.new)) }
-    ensures stands { IsTrue S.tells → IsTrue (is_fresh graph.new)
-        → StandsFor S.world S.moment S.left_since graph.new site.new }
-    ensures tree { IsTrue S.tells → TreeStays (S.world site.old) (S.world site.new) }
-    ensures crash { IsTrue S.tells → LeavesScanned S.moment S.left_since site.old site.new
-        graph.old.nodes seen.now.files seen.now.config }
-    ensures known { IsTrue S.tells → S.known site.new ≡ S.known site.old }
-    ensures cause { CountsFaults (S.faults site.old) (S.faults site.new) result }
-    ensures steps { OnOk result (HasStepped graph.old.nodes
-        (BeginsScan graph.old.nodes seen.now.files) steps.old steps.new) }
-    ensures fewer { OnErr result (HasSteppedAtMost graph.old.nodes
-        (BeginsScan graph.old.nodes seen.now.files) steps.old steps.new) }
-{
-    know_users(alloc, graph, seen)?;
-    commit_scan(alloc, graph, site, seen, steps)
-}
-
-/// Makes the maps of the graph, if the scan asks for them.
-fn know_users(alloc: Global, graph: &mut Graph, seen: &Seen) -> Result<(), GraphFault>
-    ensures same { graph.new ≡ graph.old }
-    ensures sound { IsTrue (is_fresh graph.old)
-        → IsGraphOf (entries_in graph.old.table) graph.old.nodes }
-    ensures memory { IfErr result (λ fault. fault ≡ GraphFault.Memory) }
-{
-    if asks_for_users(graph.indexed(), seen) {
-        return graph.know_users(alloc);
-    }
-    Ok(())
-}
-
-/// Takes note of a scan as `note_scan` does, with the maps of the graph as they are.
-fn commit_scan<S: Site, L: Ledger>(
     alloc: Global,
     graph: &mut Graph,
     site: &mut S,

@@ -18,3 +18,5 @@ pub mod Values
 pub mod Finishing
 pub mod Flagging
 pub mod Owning
+pub mod Printing
+pub mod Printed

@@ -14,3 +14,5 @@ pub mod Reach
 pub mod Owners
 pub mod Late
 pub mod RuleList
+pub mod Lists
+pub mod Prints

@@ -1,7 +1,7 @@
 //! The graph of a project: what the store keeps between two updates, as typed nodes over a table of records.
 //!
 //! `read_graph` gives the graph that the entries of a table stand for, or the place of the first that isn't a record or
-//! doesn't fit. The readers give the graph's own data. Each transaction is a pure function of the graph to the edits that
+//! doesn't fit. Beside it come its prints, which lead from a path to the rules that use it. The readers give the graph's own data. Each transaction is a pure function of the graph to the edits that
 //! it makes, a file each; the laws say what edits do to the table, and what they leave of the graph.
 #![tactic(auto)]
 
@@ -21,6 +21,8 @@ mod nodes;
 mod opening;
 mod owned;
 mod owners;
+mod print_lists;
+mod prints;
 mod rule_list;
 mod taking;
 
@@ -36,3 +38,4 @@ pub use nodes::Nodes;
 pub use opening::read_graph;
 pub use owned::Owned;
 pub use owners::Owners;
+pub use prints::Prints;

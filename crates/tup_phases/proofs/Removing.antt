@@ -11,8 +11,7 @@ use Rattle.tup_rule.proofs.Laws.{among-decides}
 use Rattle.tup_graph.specs.declared.owned.Owned.{Owned}
 use Rattle.tup_graph.specs.Graph.{GraphState, is_owned}
 use Rattle.tup_ledger.proofs.Keys.{filtered_ascend}
-use Rattle.tup_closure.proofs.Reading.{in_filter}
-use Rattle.tup_scan_diff.proofs.Editing.{filter_in}
+use Rattle.tup_readers.proofs.Filtering.{filter_in, in_filter}
 use Rattle.tup_law_site.proofs.Stores.{one_in_bytes}
 use Rattle.tup_law_board.proofs.Unmade.{unmade_at}
 use Rattle.tup_stale.specs.Unmade.{standing, unmade}

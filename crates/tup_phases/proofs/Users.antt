@@ -22,7 +22,7 @@ use Rattle.tup_graph.specs.Graph.{GraphState}
 use Rattle.tup_graph.specs.Kept.{HasMakers}
 use Rattle.tup_graph.specs.Swap.{IsSwapped}
 use Rattle.tup_law_graph.specs.Fitting.{AreFitting}
-use Rattle.tup_closure.proofs.Reading.{in_filter}
+use Rattle.tup_readers.proofs.Filtering.{in_filter}
 use Rattle.tup_scan_diff.proofs.Editing.{entry_found}
 use Rattle.tup_law_graph.proofs.Lists.{map_in}
 use Rattle.tup_law_graph.proofs.Swapping.{owned_by, owned_if}

@@ -9,6 +9,7 @@ use Rattle.std.specs.FinMap as finite
 use Rattle.std.specs.FinMap.{FinMap, IsAntisymmetric, find, is_sorted}
 use Rattle.std.specs.FinMap.Entries.{below_all}
 use Rattle.std.proofs.Math.Dec.{T}
+use Rattle.std.proofs.lemmas.Bool.{false≢true}
 
 pub in_front : {X : Type 0} (x : X) (xs : List X) → Contains (x ∷ xs) x
 in_front x xs = (0, omega arith, refl)
@@ -22,6 +23,15 @@ front_or_behind x y xs (suc k, less, is) = inr (k, omega arith, is)
 
 pub none_in : {X : Type 0} (x : X) → Contains [] x → ⊥
 none_in x h = let less = h.1 in omega arith
+
+pub less_is : (r : Ordering) → is_lt r ≡ true → r ≡ Less
+less_is Less e = refl
+less_is Equal e = absurd (false≢true e)
+less_is Greater e = absurd (false≢true e)
+
+pub holds : (b : Bool) → T b → b ≡ true
+holds true t = refl
+holds false t = absurd t
 
 left_of : (a b : Bool) → T (a && b) → T a
 left_of true b t = tt

@@ -1,8 +1,8 @@
 pub mod Entries
-pub mod Adding
+pub mod Filtering
 pub mod Keeping
+pub mod Adding
 pub mod Asking
-pub mod Answering
 pub mod Listing
 pub mod Suspecting
-pub mod Passing
+pub mod Using

@@ -13,9 +13,8 @@ use Rattle.tup_path.specs.Order.{by_names, by_names-antisymmetric, by_names-tota
 use Rattle.tup_stamp.specs.declared.Stamp.{Stamp}
 use Rattle.tup_record.specs.declared.run.RunRecord.{RunRecord}
 use Rattle.tup_readers.specs.Changes.{Adds, Takes}
-use Rattle.tup_graph.specs.Above.{HasAsked}
 use Rattle.tup_graph.specs.Graph.{GraphState}
-use Rattle.tup_readers.specs.Index.{HasWritten, IsUserIn}
+use Rattle.tup_readers.specs.Index.{IsUserIn}
 use Rattle.tup_readers.specs.Suspects.{AskedOther, HasAllOthers, HasOthersOf, IsAmong, Runs, Stamps, TellsOther, WroteOther}
 use Rattle.tup_readers.proofs.Adding.{added_twice}
 use Rattle.tup_readers.proofs.Entries.{entry_found, exact-decides, none_in}
@@ -136,15 +135,4 @@ number_added list number = added_twice both
         | inl before ↦ Contains-append_left list (number ∷ []) n before
         | inr is ↦ subst (Contains (list ++ number ∷ [])) (sym is) (Contains-push list number)
       ],
-    )
-
--- those who read a path, and those who wrote it
-pub users_added : {Old Mid New : ℕ → Type 0} (g : GraphState) (path : Names) (readers writers : List ℕ) → ((n : ℕ) → Contains readers n ↔ HasAsked g n path) → ((n : ℕ) → Contains writers n ↔ HasWritten g n path)
-    → Adds (Contains readers) Old Mid → Adds (Contains writers) Mid New → Adds (IsUserIn g path) Old New
-users_added g path readers writers asked written = added_twice both
-  where
-    both : (n : ℕ) → IsUserIn g path n ↔ (Contains readers n ⊎ Contains writers n)
-    both n = (
-      λ user. elim user [ inl asks ↦ inl ((asked n).1 asks) | inr wrote ↦ inr ((written n).1 wrote) ],
-      λ e. elim e [ inl h ↦ inl ((asked n).0 h) | inr h ↦ inr ((written n).0 h) ],
     )

@@ -1,8 +1,6 @@
-pub mod Exact
 pub mod Changes
-pub mod Sets
-pub mod Records
+pub mod Askers
 pub mod Index
 pub mod Suspects
-pub mod Passes
+pub mod Users
 pub mod Seen

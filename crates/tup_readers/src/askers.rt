@@ -1,84 +1,70 @@
 //! The folders whose readings asked a question.
-ghost use Rattle.std.specs.Prelude.{◌≡◌, OnOk, IfOk};
-ghost use Rattle.std.specs.FinMap as finite;
-ghost use Rattle.std.specs.Option.{option_copied};
-ghost use Rattle.tup_readers.specs.Changes.{Adds};
-ghost use Rattle.tup_readers.specs.Index.{AreAskers, HasAsker, askers_of, asked_of, question_of};
-ghost use Rattle.tup_readers.specs.Records.{AreOf};
+ghost use Rattle.std.specs.Prelude.{◌≡◌, ◌↔◌, ◌++◌, Contains, IfOk, OnOk};
+ghost use Rattle.std.specs.List.Sorted.{IsStrictlySortedBy};
+ghost use Rattle.tup_path.specs.Name.{Names};
+ghost use Rattle.tup_path.specs.Order.{by_names};
+ghost use Rattle.tup_readers.specs.Askers.{has_asked, key_if, same_question};
+ghost use Rattle.tup_readers.specs.Index.{HasQuestioned};
 
-use crate::sets::Sets;
 use std::alloc::{AllocError, Global};
-use std::collections::BTreeSet;
 use tup_graph::Nodes;
-use tup_path::{Path, Text};
-use tup_rule::{Question, Reading};
+use tup_path::Path;
+use tup_rule::{Answered, Question, Reading};
 
-/// For each question the folders whose readings asked it, by its kind.
-#[derive(Drop)]
-pub(crate) struct Askers {
-    contents: Sets<Path, Path>,
-    configs: Sets<Text, Path>,
-    names: Sets<Path, Path>,
-    kinds: Sets<Path, Path>,
+/// The folders whose readings asked a question, in the order of paths, in one pass over what readings left.
+pub(crate) fn find_askers(
+    alloc: Global,
+    nodes: &Nodes,
+    question: &Question,
+) -> Result<Vec<Path>, AllocError>
+    ensures folders { IfOk result (λ dirs. (dir : Names)
+        → Contains dirs.items dir ↔ HasQuestioned nodes.now dir question.now) }
+    ensures ascending { IfOk result (λ dirs. IsStrictlySortedBy by_names dirs.items) }
+{
+    let mut dirs = Vec::new(alloc);
+    for (dir, reading) in nodes.readings() {
+        push_if_asked(&mut dirs, dir, reading, question)?;
+    }
+    Ok(dirs)
 }
 
-impl Askers {
-    /// Nobody asked anything; it takes no memory.
-    pub(crate) fn new(alloc: Global) -> Askers
-        ensures { AreAskers finite.empty result }
-    {
-        Askers {
-            contents: Sets::new(alloc),
-            configs: Sets::new(alloc),
-            names: Sets::new(alloc),
-            kinds: Sets::new(alloc),
-        }
+/// Adds a folder, if its reading asked a question.
+fn push_if_asked(
+    dirs: &mut Vec<Path>,
+    dir: &Path,
+    reading: &Reading,
+    question: &Question,
+) -> Result<(), AllocError>
+    ensures { OnOk result (dirs.new.items
+        ≡ dirs.old.items ++ key_if (has_asked question.now reading.now) dir.now) }
+{
+    if asked(reading, question) {
+        dirs.push(dir.clone()?)?;
     }
+    Ok(())
+}
 
-    /// The askers of all questions, in one pass over what readings left.
-    pub(crate) fn of_nodes(alloc: Global, nodes: &Nodes) -> Result<Askers, AllocError>
-        ensures { IfOk result (AreAskers nodes.now.readings) }
-    {
-        let mut askers = Askers::new(alloc);
-        for (dir, reading) in nodes.readings() {
-            askers.add(alloc, dir, reading)?;
-        }
-        Ok(askers)
-    }
+/// Whether a reading asked a question.
+fn asked(reading: &Reading, question: &Question) -> bool
+    ensures { result ≡ has_asked question.now reading.now }
+{
+    reading
+        .asked
+        .as_slice()
+        .iter()
+        .any(|one| is_of(one, question))
+}
 
-    /// The folders that asked a question, where there are some.
-    pub(crate) fn of(&self, question: &Question) -> Option<&BTreeSet<Path>>
-        ensures { option_copied result ≡ askers_of self.now question.now }
-    {
-        match question {
-            Question::Content(path) => self.contents.of(path),
-            Question::Config(name) => self.configs.of(name),
-            Question::Names(dir) => self.names.of(dir),
-            Question::Kind(path) => self.kinds.of(path),
-        }
-    }
+/// Whether what was told answers a question.
+fn is_of(one: &Answered, question: &Question) -> bool
+    ensures { result ≡ same_question one.now.0 question.now }
+{
+    same(one.question(), question)
+}
 
-    /// Adds a folder to the askers of what its reading asked.
-    fn add(&mut self, alloc: Global, dir: &Path, reading: &Reading) -> Result<(), AllocError>
-        ensures { OnOk result (Adds (AreOf question_of (asked_of reading.now) dir.now)
-            (HasAsker self.old) (HasAsker self.new)) }
-    {
-        for one in reading.asked.as_slice() {
-            self.add_one(alloc, one.question(), dir.clone()?)?;
-        }
-        Ok(())
-    }
-
-    /// Adds a folder to the askers of a question.
-    fn add_one(&mut self, alloc: Global, question: &Question, dir: Path) -> Result<(), AllocError>
-        ensures { OnOk result (Adds (λ x. x ≡ (question.now, dir))
-            (HasAsker self.old) (HasAsker self.new)) }
-    {
-        match question {
-            Question::Content(path) => self.contents.add(alloc, path.clone()?, dir),
-            Question::Config(name) => self.configs.add(alloc, name.clone()?, dir),
-            Question::Names(folder) => self.names.add(alloc, folder.clone()?, dir),
-            Question::Kind(path) => self.kinds.add(alloc, path.clone()?, dir),
-        }
-    }
+/// Whether two questions are the same.
+fn same(one: &Question, other: &Question) -> bool
+    ensures { result ≡ same_question one.now other.now }
+{
+    one == other
 }

@@ -1,20 +1,19 @@
 //! Rules whose records may no longer tell what is seen.
-ghost use Rattle.std.specs.Prelude.{◌≡◌, Contains, IfOk, IfSome, OnOk};
+ghost use Rattle.std.specs.Prelude.{◌≡◌, Contains, IfOk, OnOk};
 ghost use Rattle.std.specs.Bool.{Decides};
 ghost use Rattle.std.specs.FinMap as finite;
 ghost use Rattle.tup_graph.specs.Edits.{edited, without};
-ghost use Rattle.tup_graph.specs.Graph.{GraphState};
 ghost use Rattle.tup_graph.specs.Opening.{put as put_of};
+ghost use Rattle.tup_graph.specs.Prints.{HasPrints};
 ghost use Rattle.tup_readers.specs.Changes.{Adds, Takes};
-ghost use Rattle.tup_readers.specs.Index.{AreUsers, IsUserIn};
+ghost use Rattle.tup_readers.specs.Index.{IsUserIn};
 ghost use Rattle.tup_readers.specs.Suspects.{AreSuspects, AskedOther, IsAmong, TellsOther, WroteOther};
 
-use crate::passes::{Way, find_users};
 use crate::seen::SeenFiles;
-use crate::users::Users;
+use crate::users::{Way, users_among};
 use std::alloc::{AllocError, Global};
 use std::collections::BTreeSet;
-use tup_graph::{Edit, Nodes};
+use tup_graph::{Edit, Nodes, Prints};
 use tup_path::Path;
 use tup_record::{Record, RunRecord};
 use tup_stamp::Stamp;
@@ -49,23 +48,22 @@ impl Suspects {
         Ok(suspects)
     }
 
-    /// Takes in what an edit does to a graph, which is given as it is before, with the users of its paths, where these are
-    /// known. An edit by which a file is seen otherwise goes through all records where they aren't.
+    /// Takes in what an edit does to a graph, which is given as it is before, with the prints of its paths.
     pub(crate) fn edit(
         &mut self,
         alloc: Global,
         nodes: &Nodes,
-        users: &Option<Users>,
+        prints: &Prints,
         edit: &Edit,
     ) -> Result<(), AllocError>
         requires suspects { AreSuspects nodes.now.seen nodes.now.runs self.old }
-        requires users { IfSome users.now (AreUsers nodes.now.runs) }
+        requires prints { HasPrints nodes.now prints.now }
         ensures { OnOk result (AreSuspects (edited nodes.now edit.now).seen
             (edited nodes.now edit.now).runs self.new) }
     {
         match edit {
-            Edit::Put(found) => self.put(alloc, nodes, users, found),
-            Edit::Remove(gone) => self.leave_out(alloc, nodes, users, gone),
+            Edit::Put(found) => self.put(alloc, nodes, prints, found),
+            Edit::Remove(gone) => self.leave_out(alloc, nodes, prints, gone),
         }
     }
 
@@ -74,16 +72,16 @@ impl Suspects {
         &mut self,
         alloc: Global,
         nodes: &Nodes,
-        users: &Option<Users>,
+        prints: &Prints,
         found: &Record,
     ) -> Result<(), AllocError>
         requires suspects { AreSuspects nodes.now.seen nodes.now.runs self.old }
-        requires users { IfSome users.now (AreUsers nodes.now.runs) }
+        requires prints { HasPrints nodes.now prints.now }
         ensures { OnOk result (AreSuspects (put_of nodes.now found.now).seen
             (put_of nodes.now found.now).runs self.new) }
     {
         match found {
-            Record::Seen { path, .. } => self.add_users(alloc, nodes, users, path),
+            Record::Seen { path, .. } => self.add_users(alloc, nodes, prints, path),
             Record::Run { number, run } => self.renew(alloc, nodes, *number, run),
             _ => Ok(()),
         }
@@ -94,16 +92,16 @@ impl Suspects {
         &mut self,
         alloc: Global,
         nodes: &Nodes,
-        users: &Option<Users>,
+        prints: &Prints,
         gone: &Record,
     ) -> Result<(), AllocError>
         requires suspects { AreSuspects nodes.now.seen nodes.now.runs self.old }
-        requires users { IfSome users.now (AreUsers nodes.now.runs) }
+        requires prints { HasPrints nodes.now prints.now }
         ensures { OnOk result (AreSuspects (without nodes.now gone.now).seen
             (without nodes.now gone.now).runs self.new) }
     {
         match gone {
-            Record::Seen { path, .. } => self.add_users(alloc, nodes, users, path),
+            Record::Seen { path, .. } => self.add_users(alloc, nodes, prints, path),
             Record::Run { number, .. } => {
                 self.acquit(nodes, *number);
                 Ok(())
@@ -154,43 +152,21 @@ impl Suspects {
         Ok(())
     }
 
-    /// Adds the rules whose records ask or wrote a path. Where the maps aren't made it goes through all records.
+    /// Adds the rules whose records ask or wrote a path.
     fn add_users(
         &mut self,
         alloc: Global,
         nodes: &Nodes,
-        users: &Option<Users>,
+        prints: &Prints,
         path: &Path,
     ) -> Result<(), AllocError>
-        requires { IfSome users.now (AreUsers nodes.now.runs) }
+        requires { HasPrints nodes.now prints.now }
         ensures { OnOk result (Adds (IsUserIn nodes.now path.now)
             (IsAmong self.old.numbers) (IsAmong self.new.numbers)) }
     {
-        match users {
-            Some(users) => self.add_known(alloc, users, path),
-            None => self.add_found(alloc, nodes, path),
-        }
-    }
-
-    /// Adds the rules whose records ask or wrote a path, by the maps.
-    fn add_known(&mut self, alloc: Global, users: &Users, path: &Path) -> Result<(), AllocError>
-        ensures { (g : GraphState) → AreUsers g.runs users.now
-            → OnOk result (Adds (IsUserIn g path.now)
-            (IsAmong self.old.numbers) (IsAmong self.new.numbers)) }
-    {
-        let readers = users.readers_of(alloc, path)?;
-        self.add_all(&readers)?;
-        let writers = users.writers_of(alloc, path)?;
-        self.add_all(&writers)
-    }
-
-    /// Adds the rules whose records ask or wrote a path, in one pass over the records.
-    fn add_found(&mut self, alloc: Global, nodes: &Nodes, path: &Path) -> Result<(), AllocError>
-        ensures { OnOk result (Adds (IsUserIn nodes.now path.now)
-            (IsAmong self.old.numbers) (IsAmong self.new.numbers)) }
-    {
-        let numbers = find_users(alloc, nodes, path, Way::Either)?;
-        self.add_all(&numbers)
+        let near = prints.users(alloc, path)?;
+        let users = users_among(alloc, nodes, &near, path, Way::Either)?;
+        self.add_all(&users)
     }
 
     /// Adds some rules.

@@ -22,9 +22,6 @@ use tup_readers::Indexed;
 use tup_record::RunRecord;
 use tup_rule::Rule;
 
-/// The readers of so many paths are found by passes over the records.
-const FEW: usize = 16;
-
 /// The records of runs that rules keep, under the numbers that they have now.
 pub(crate) fn runs_now(
     alloc: Global,
@@ -59,50 +56,22 @@ fn push_run(
     Ok(())
 }
 
-/// The graph of the rules and of the records that they keep; with its maps, if one asks for them often.
-fn led(
-    alloc: Global,
-    rules: &[Rule],
-    runs: &[(u32, RunRecord)],
-    often: bool,
-) -> Result<Indexed, GraphFault>
+/// The graph of the rules and of the records that they keep.
+fn led(alloc: Global, rules: &[Rule], runs: &[(u32, RunRecord)]) -> Result<Indexed, GraphFault>
     ensures led { IfOk result (λ led. led ≡ led_by rules.now runs.now) }
     ensures memory { IfErr result (λ fault. fault ≡ GraphFault.Memory) }
 {
     let mut edits = Items::new(alloc);
     push_more(alloc, &mut edits, rules)?;
     push_runs(&mut edits, runs)?;
-    let mut led = Indexed::empty(alloc);
+    let mut led = Indexed::empty(alloc)?;
     match led.edit_all(alloc, edits) {
-        Ok(()) => Ok(knowing(alloc, led, often)?),
+        Ok(()) => Ok(led),
         Err(fault) => {
             drop(led);
             Err(fault)
         }
     }
-}
-
-/// The same graph; with its maps, if one asks for them often.
-fn knowing(alloc: Global, led: Indexed, often: bool) -> Result<Indexed, GraphFault>
-    ensures same { IfOk result (λ known. known ≡ led) }
-    ensures memory { IfErr result (λ fault. fault ≡ GraphFault.Memory) }
-{
-    let mut known = led;
-    if often {
-        known.know_users(alloc)?;
-    }
-    Ok(known)
-}
-
-/// Whether more than a few outputs are those of new rules.
-fn makes_many(rules: &[Rule], befores: &[Option<u32>]) -> bool {
-    let mut outputs: usize = 0;
-    for (at, rule) in rules.iter().enumerate() {
-        if is_new(befores, at) {
-            outputs = outputs.saturating_add(rule.outputs.as_slice().len());
-        }
-    }
-    outputs > FEW
 }
 
 /// The rules that are to be run, where these are the rules now, and these the records that they keep. Where no record asks
@@ -165,7 +134,7 @@ fn flags_led<L: Ledger>(
         (ReadsNew nodes.now (led_by rules.now runs.now)) steps.old steps.new) }
     ensures memory { IfErr result (λ fault. fault ≡ GraphFault.Memory) }
 {
-    let led = led(alloc, rules, runs, makes_many(rules, befores))?;
+    let led = led(alloc, rules, runs)?;
     let flags = to_run(alloc, nodes, &led, befores, steps);
     drop(led);
     flags

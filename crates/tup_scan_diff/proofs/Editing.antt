@@ -26,9 +26,10 @@ use Rattle.tup_graph.specs.Edits.{edited, edited_by}
 use Rattle.tup_graph.specs.Graph.{GraphState, is_created, is_flagged}
 use Rattle.tup_graph.specs.Transactions.{seen_so, flag_edits}
 use Rattle.tup_readers.proofs.Entries.{none_in, in_front, behind_front, front_or_behind}
+use Rattle.tup_readers.proofs.Filtering.{in_filter}
+pub use Rattle.tup_readers.proofs.Filtering.{filter_in}
 use Rattle.tup_scan_diff.specs.Edits.{is_same, is_news, is_gone, not_seen, news_edits, gone_edits, seen_edits, to_read, create_edits, modify_edits}
 use Rattle.tup_scan_diff.specs.Present.{seeing}
-use Rattle.tup_closure.proofs.Reading.{in_filter}
 
 -- ---- entries of a map, by their keys
 
@@ -90,20 +91,6 @@ module _ {X : Type 0} where
 -- ---- filtered lists
 
 module _ {X : Type 0} (p : X → Bool) where
-  pub filter_in : (xs : List X) (x : X) → Contains (filter p xs) x → Contains xs x × (p x ≡ true)
-  filter_in [] x h = absurd (none_in x h)
-  filter_in (first ∷ xs) x h = either (p first) refl (filter_in xs x) h
-    where
-      later : Contains xs x × (p x ≡ true) → Contains (first ∷ xs) x × (p x ≡ true)
-      later (h, passes) = (behind_front first x xs h, passes)
-
-      either : (b : Bool) → p first ≡ b → (Contains (filter p xs) x → Contains xs x × (p x ≡ true)) → Contains (cond b (first ∷ filter p xs) (filter p xs)) x → Contains (first ∷ xs) x × (p x ≡ true)
-      either true passes more h = elim (front_or_behind first x (filter p xs) h) [
-        | inl same ↦ (subst (Contains (first ∷ xs)) same (in_front first xs), ap p (sym same) ∙ passes)
-        | inr behind ↦ later (more behind)
-      ]
-      either false fails more h = later (more h)
-
   pub none_pass : (xs : List X) → ((x : X) → Contains xs x → p x ≡ false) → filter p xs ≡ []
   none_pass [] none = refl
   none_pass (first ∷ xs) none = ap (λ (b : Bool). cond b (first ∷ filter p xs) (filter p xs)) (none first (in_front first xs)) ∙ none_pass xs (λ x h. none x (behind_front first x xs h))

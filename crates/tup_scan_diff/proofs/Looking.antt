@@ -9,6 +9,7 @@ use Rattle.std.specs.Ordering.{nat_cmp}
 use Rattle.std.proofs.lemmas.Bool.{true≢false}
 use Rattle.std.proofs.lemmas.List.{take_all, take_more}
 use Rattle.std.proofs.lemmas.List.Elements.{Contains-append_left, Contains-append_right, Contains-push, Contains-push_cases}
+use Rattle.std.proofs.lemmas.Option.{none-some, same_Some}
 use Rattle.tup_path.specs.Name.{Names}
 use Rattle.tup_path.specs.Order.{by_names}
 use Rattle.tup_stamp.specs.declared.Stamp.{Stamp}
@@ -21,14 +22,13 @@ use Rattle.tup_graph.specs.Transactions.{seen_so}
 use Rattle.tup_readers.specs.Index.{HasWritten}
 use Rattle.tup_readers.specs.Suspects.{HasAllOthers}
 use Rattle.tup_readers.proofs.Entries.{entry_found as number_found, found_entry as found_number, none_in, in_front, behind_front, front_or_behind}
-use Rattle.tup_readers.proofs.Keeping.{none_some, some_same}
+use Rattle.tup_readers.proofs.Filtering.{in_filter}
 use Rattle.tup_closure.specs.Grows.{Grows}
 use Rattle.tup_closure.proofs.Growing.{grows_as, grows_nothing, grows_on}
 use Rattle.tup_closure.proofs.Members.{contained, number-decides}
 use Rattle.tup_scan_diff.specs.Edits.{gone_edits, is_gone, is_news, is_same, news_edits, not_seen, seen_edits}
 use Rattle.tup_scan_diff.specs.Present.{seeing}
 use Rattle.tup_scan_diff.specs.Touched.{FindsRoots, IsScanRoot, IsUserOf, SeesOtherwise, UsesOneOf, file_of, record_of}
-use Rattle.tup_closure.proofs.Reading.{in_filter}
 use Rattle.tup_scan_diff.proofs.Editing.{entry_found, same_is}
 
 -- ---- one after another
@@ -98,11 +98,11 @@ module _ (g : GraphState) where
   pub at_path : {A B : ℕ → Type 0} (h : GraphState) (edit : Edit) (path : Names) → Some path ≡ file_of (record_of edit) → Finds (IsUserOf h path) A B → Finds (λ n. (p : Names) × SeesOtherwise edit p × IsUserOf h p n) A B
   at_path h edit path there = looked_as (λ n. (
     λ uses. (path, sym there, uses),
-    λ (p, sees, uses). subst (λ (q : Names). IsUserOf h q n) (some_same p path (sym sees ∙ sym there)) uses,
+    λ (p, sees, uses). subst (λ (q : Names). IsUserOf h q n) (same_Some p path (sym sees ∙ sym there)) uses,
   ))
 
   pub at_no_path : {A : ℕ → Type 0} (h : GraphState) (edit : Edit) → None ≡ file_of (record_of edit) → Finds (λ n. (p : Names) × SeesOtherwise edit p × IsUserOf h p n) A A
-  at_no_path h edit there = none_looked (λ n (p, sees, uses). none_some p (there ∙ sees))
+  at_no_path h edit there = none_looked (λ n (p, sees, uses). none-some p (there ∙ sees))
 
   -- edit after edit
   edit_looked : {A B C : ℕ → Type 0} (h : GraphState) (edits : List Edit) (edit : Edit) → Finds (UsesOneOf h edits) A B → Finds (λ n. (path : Names) × SeesOtherwise edit path × IsUserOf h path n) B C → Finds (UsesOneOf h (edits ++ edit ∷ [])) A C

@@ -20,4 +20,4 @@ mod stamps;
 mod touched;
 
 pub use laws::{scan_edits_are_read, scan_edits_leave};
-pub use scan::{asks_for_users, note_scan};
+pub use scan::note_scan;

@@ -5,41 +5,12 @@ ghost use Rattle.tup_closure.specs.Steps.{HasStepped, HasSteppedAtMost};
 ghost use Rattle.tup_scan_diff.specs.Edits.{AreScanEdits, BeginsScan};
 
 use crate::present::Present;
-use crate::stamps::{asks_of_others, seen_otherwise};
 use std::alloc::Global;
 use std::sync::ledger::Ledger;
 use tup_closure::Steps;
-use tup_graph::{Edits, GraphFault, Nodes};
+use tup_graph::{Edits, GraphFault};
 use tup_readers::Indexed;
 use tup_scan::Seen;
-
-/// So many files are asked about by passes over the records.
-const FEW: usize = 8;
-
-/// A walk from more rules than so many makes maps of its own where there are none.
-const MANY: usize = 16;
-
-/// Whether `note_scan` asks again and again who uses a path: more than a few files are seen otherwise, or many records ask those, or
-/// more than a few rules are flagged or may have been touched before. Then the maps of the graph had better be there: once for this
-/// walk, the one of the plan, and what the runs change behind it.
-pub fn asks_for_users(graph: &Indexed, seen: &Seen) -> bool {
-    let nodes = graph.nodes();
-    if graph.suspects().len() > FEW || flags_more(nodes, FEW) {
-        return true;
-    }
-    let files = seen.files.as_slice();
-    let others = seen_otherwise(nodes, files);
-    others > FEW || others > 0 && asks_of_others(nodes, files) > MANY
-}
-
-/// Whether more than so many rules are flagged.
-fn flags_more(nodes: &Nodes, few: usize) -> bool {
-    let mut flagged: usize = 0;
-    for _ in nodes.flags() {
-        flagged = flagged.saturating_add(1);
-    }
-    flagged > few
-}
 
 /// What taking note of a scan does to a graph: files are seen with the stamps that the scan found, and no others are;
 /// rules that recorded reads lead to from one that is flagged, or whose run asked (own outputs aside) or wrote another

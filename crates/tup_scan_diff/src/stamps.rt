@@ -75,50 +75,6 @@ fn edited(
     }
 }
 
-/// How many files are seen otherwise than in these files, and how many are lost. A file that stands at its place among those that
-/// were seen takes no look-up.
-pub(crate) fn seen_otherwise(nodes: &Nodes, files: &[(Path, Stamp)]) -> usize {
-    let mut left = nodes.files();
-    let mut others: usize = 0;
-    for (path, stamp) in files {
-        if is_other(nodes, left.next(), path, *stamp) {
-            others = others.saturating_add(1);
-        }
-    }
-    for _ in left {
-        others = others.saturating_add(1);
-    }
-    others
-}
-
-/// How many records ask a file that is seen otherwise in these files, which takes a pass over the records for each such file.
-pub(crate) fn asks_of_others(nodes: &Nodes, files: &[(Path, Stamp)]) -> usize {
-    let mut left = nodes.files();
-    let mut asks: usize = 0;
-    for (path, stamp) in files {
-        if is_other(nodes, left.next(), path, *stamp) {
-            asks = asks.saturating_add(asks_of(nodes, path));
-        }
-    }
-    asks
-}
-
-/// Whether a file was seen otherwise, or not at all. `there` is what was seen at its place.
-fn is_other(nodes: &Nodes, there: Option<(&Path, &Stamp)>, path: &Path, stamp: Stamp) -> bool {
-    seen_there(there, path) != Some(stamp) && nodes.seen(path) != Some(stamp)
-}
-
-/// How many records ask a path.
-fn asks_of(nodes: &Nodes, path: &Path) -> usize {
-    let mut asks: usize = 0;
-    for (_, run) in nodes.runs() {
-        if run.asks.as_slice().iter().any(|ask| ask.0 == *path) {
-            asks = asks.saturating_add(1);
-        }
-    }
-    asks
-}
-
 /// The stamp of a file that was seen, if it is the one at this path.
 fn seen_there(seen: Option<(&Path, &Stamp)>, path: &Path) -> Option<Stamp>
     ensures { IfSome result (λ stamp. option_map deref_pair seen.entry ≡ Some (path.now, stamp)) }

@@ -79,9 +79,9 @@ pub fn add_graph(alloc: Global, words: &mut Words, bytes: &[u8]) {
 
 fn add_graph_in(alloc: Global, words: &mut Words, entries: &Entries) {
     match read_graph(alloc, entries) {
-        Ok(graph) => {
+        Ok((graph, prints)) => {
             graph.say(alloc, words);
-            drop(graph);
+            drop((graph, prints));
         }
         Err(GraphFault::Memory) => words.fail(RowFault::Memory),
         Err(fault) => add_refusal(alloc, words, &fault),

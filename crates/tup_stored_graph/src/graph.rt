@@ -81,9 +81,10 @@ impl Graph {
         ensures cause { CountsFaults (S.faults site.old) (S.faults site.new) result }
     {
         let table = Table::make(alloc, site)?;
+        let nodes = Indexed::empty(alloc)?;
         Ok(Graph {
             table,
-            nodes: Indexed::empty(alloc),
+            nodes,
             whole: true,
         })
     }
@@ -117,8 +118,8 @@ impl Graph {
         ensures cause { CountsFaults (S.faults site.old) (S.faults site.new) result }
     {
         let table = Table::open(alloc, site)?;
-        let nodes = read_graph(alloc, table.entries())?;
-        let indexed = Indexed::of(alloc, nodes)?;
+        let (nodes, prints) = read_graph(alloc, table.entries())?;
+        let indexed = Indexed::of(alloc, nodes, prints)?;
         Ok(Graph {
             table,
             nodes: indexed,
@@ -135,21 +136,13 @@ impl Graph {
         self.nodes.nodes()
     }
 
-    /// The same nodes, with the maps that lead back over what their records ask.
+    /// The same nodes, with what leads back from a path to those that use it.
     pub fn indexed(&self) -> &Indexed
         ensures value { result.now ≡ self.now.nodes }
         ensures graph { IsTrue (is_fresh self.now)
             → IsGraphOf (entries_in self.now.table) result.now }
     {
         &self.nodes
-    }
-
-    /// Makes the maps from paths to the rules whose records ask or wrote them, if they aren't made yet. Each edit makes them too.
-    pub fn know_users(&mut self, alloc: Global) -> Result<(), GraphFault>
-        ensures same { self.new ≡ self.old }
-        ensures memory { IfErr result (λ fault. fault ≡ GraphFault.Memory) }
-    {
-        self.nodes.know_users(alloc)
     }
 
     /// The rules whose records ask a path, in ascending order.

@@ -1,30 +1,15 @@
-use Rattle.std.proofs.Common.{◌≡◌, ◌∙◌, ◌+◌, ◌≤◌, List, ℕ, refl, subst, length, arith}
+use Rattle.std.proofs.Common.{◌≡◌, List, ℕ, refl, length, arith}
 use Rattle.std.specs.Prelude.{Contains, ◌↔◌}
 use Rattle.std.proofs.lemmas.Grind.{common_steps}
 use Rattle.std.proofs.lemmas.Result.{IfOk-weaker}
 use Rattle.tup_graph.specs.Above.{IsAbove}
-use Rattle.tup_graph.specs.Graph.{GraphState, outputs_of}
-use Rattle.tup_closure.specs.Readers.{HasAskedOneOf}
-use Rattle.tup_closure.specs.Steps.{looks_at}
-use Rattle.tup_closure.specs.Walk.{GoesTo}
 use Rattle.tup_closure.specs.declared.walk.Walk.{Walk}
 use Rattle.tup_closure.proofs.Stepping.{begun_counted, counted_on, no_more, roots_at_most, all_counted, all_at_most, if_ok, if_err}
 use Rattle.tup_closure.proofs.Walking.{begun, gone_on, nearer, all_above, none_left}
 use Rattle.tup_closure.proofs.walk.above.Goals as goal
 
--- what is said of the same graph
-goes_by : {g h : GraphState} {old new : Walk} (number : ℕ) → g ≡ h → GoesTo (HasAskedOneOf g (outputs_of g number)) old new → GoesTo (HasAskedOneOf h (outputs_of h number)) old new
-goes_by {g} {h} {old} {new} number = subst (λ (f : GraphState). GoesTo (HasAskedOneOf f (outputs_of f number)) old new)
-
-steps_by : {g h : GraphState} (number before after : ℕ) → g ≡ h → after ≡ before + looks_at g (outputs_of g number) → after ≡ before + looks_at h (outputs_of h number)
-steps_by {g} {h} number before after = subst (λ (f : GraphState). after ≡ before + looks_at f (outputs_of f number))
-
-fewer_by : {g h : GraphState} (number before after : ℕ) → g ≡ h → after ≤ before + looks_at g (outputs_of g number) → after ≤ before + looks_at h (outputs_of h number)
-fewer_by {g} {h} number before after = subst (λ (f : GraphState). after ≤ before + looks_at f (outputs_of f number))
-
 pub rules-init : goal.rules-init
 rules-init g c = record {
-  same = c.of-finder.ensures;
   walk = begun c.args.graph.now c.args.roots.now c.new-walk.result c.reach_roots.new.self c.new-walk.ensures.reached c.new-walk.ensures.waiting c.requires.roots c.in_ok-reach_roots.ensures.goes;
   counted =
       begun_counted c.args.graph.now (Contains c.args.roots.now) c.args.steps.now c.new-walk.result c.reach_roots.new.self c.reach_roots.new.steps
@@ -39,27 +24,25 @@ pub rules-preserved : goal.rules-preserved
 rules-preserved g c =
     let mid : Walk = record { reached = c.rules.walk.reached; waiting = c.pop.new.self } in
     record {
-      same = c.in_ok-visit.ensures.same ∙ c.rules.invariant.same;
       walk =
           gone_on c.args.graph.now c.requires.runs (Contains c.args.roots.now) c.rules.walk mid c.visit.new.self c.in-Some.number
-          refl c.in-Some.ensures.items c.rules.invariant.walk (goes_by c.in-Some.number c.rules.invariant.same c.in_ok-visit.ensures.goes);
+          refl c.in-Some.ensures.items c.rules.invariant.walk c.in_ok-visit.ensures.goes;
       counted =
           counted_on c.args.graph.now (Contains c.args.roots.now) c.args.steps.now c.rules.walk mid c.visit.new.self c.in-Some.number c.rules.steps c.visit.new.steps
-          refl c.in-Some.ensures.items c.rules.invariant.counted (goes_by c.in-Some.number c.rules.invariant.same c.in_ok-visit.ensures.goes)
-          (steps_by c.in-Some.number c.rules.steps c.visit.new.steps c.rules.invariant.same c.in_ok-visit.ensures.steps);
+          refl c.in-Some.ensures.items c.rules.invariant.counted c.in_ok-visit.ensures.goes c.in_ok-visit.ensures.steps;
     }
 
 pub rules-smaller : goal.rules-smaller
 rules-smaller g c =
     nearer c.args.graph.now c.requires.runs (Contains c.args.roots.now) c.rules.walk (record { reached = c.rules.walk.reached; waiting = c.pop.new.self }) c.visit.new.self c.in-Some.number
-    refl c.in-Some.ensures.items c.rules.invariant.walk (goes_by c.in-Some.number c.rules.invariant.same c.in_ok-visit.ensures.goes)
+    refl c.in-Some.ensures.items c.rules.invariant.walk c.in_ok-visit.ensures.goes
 
 pub returns-in_err-visit-clause-fewer : goal.returns-in_err-visit-clause-fewer
 returns-in_err-visit-clause-fewer g c =
     let mid : Walk = record { reached = c.rules.walk.reached; waiting = c.pop.new.self } in
     if_err c.from_residual-in_err-visit.result
     (no_more c.args.graph.now (Contains c.args.roots.now) c.args.steps.now c.rules.walk mid c.visit.new.self c.in-Some.number c.rules.steps c.visit.new.steps
-    refl c.in-Some.ensures.items c.rules.invariant.counted c.rules.invariant.walk (fewer_by c.in-Some.number c.rules.steps c.visit.new.steps c.rules.invariant.same c.in_err-visit.ensures.fewer))
+    refl c.in-Some.ensures.items c.rules.invariant.counted c.rules.invariant.walk c.in_err-visit.ensures.fewer)
 
 pub returns-clause-above : goal.returns-clause-above
 returns-clause-above g c =

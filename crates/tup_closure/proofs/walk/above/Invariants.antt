@@ -1,10 +1,9 @@
-use Rattle.std.specs.Prelude.{◌≡◌, ◌+◌, ◌-◌, Contains, length}
+use Rattle.std.specs.Prelude.{◌+◌, ◌-◌, Contains, length}
 use Rattle.tup_closure.specs.Walk.{IsCounted, IsWalk}
 use Rattle.tup_closure.proofs.walk.above.Given as goal
 
 abbrev pub invariant-rules : goal.invariant-rules
 invariant-rules g l = record {
-  same : l.finder ≡ l.graph;
   walk : IsWalk l.graph (Contains l.roots) l.walk;
   counted : IsCounted l.graph (Contains l.roots) l.fn.steps l.walk l.steps;
 }

@@ -1,8 +1,4 @@
-use Rattle.std.proofs.Common.{◌≡◌, ◌∙◌, ◌+◌, ◌≤◌, refl, subst, length, arith}
-use Rattle.tup_graph.specs.Above.{HasAsked}
-use Rattle.tup_graph.specs.Graph.{GraphState}
-use Rattle.tup_closure.specs.Steps.{readers_of}
-use Rattle.tup_closure.specs.Walk.{GoesTo}
+use Rattle.std.proofs.Common.{arith}
 use Rattle.tup_closure.proofs.Asked.{asked_of_none}
 use Rattle.tup_closure.proofs.Stepping.{if_err, looked_less, looked_more}
 use Rattle.tup_closure.proofs.Walking.{goes_nowhere, path_more}
@@ -10,33 +6,24 @@ use Rattle.tup_closure.proofs.walk.Walk.reach_readers.Goals as goal
 
 pub loop-path-init : goal.loop-path-init
 loop-path-init g c = record {
-  same = refl;
-  goes = goes_nowhere c.args.self.now (asked_of_none c.args.finder.now);
+  goes = goes_nowhere c.args.self.now (asked_of_none c.args.graph.now);
   ticked = omega arith;
 }
 
 pub loop-path-preserved : goal.loop-path-preserved
 loop-path-preserved g c =
     let path = c.path-item.result in
-    let same = c.loop-path.invariant.same in
     record {
-      same = c.in_ok-reach_readers_of.ensures.same ∙ same;
       goes =
-          path_more c.args.finder.now c.args.paths.now c.loop-path.path-index path path c.args.self.now c.loop-path.self c.reach_readers_of.new.self c.loop-path-test.true c.path-item.is
-          c.loop-path.invariant.goes
-          (subst (λ (f : GraphState). GoesTo (λ number. HasAsked f number path) c.loop-path.self c.reach_readers_of.new.self) same c.in_ok-reach_readers_of.ensures.goes);
+          path_more c.args.graph.now c.args.paths.now c.loop-path.path-index path path c.args.self.now c.loop-path.self c.reach_readers_of.new.self c.loop-path-test.true c.path-item.is
+          c.loop-path.invariant.goes c.in_ok-reach_readers_of.ensures.goes;
       ticked =
-          looked_more c.args.finder.now c.args.paths.now c.loop-path.path-index path c.args.steps.now c.loop-path.steps c.reach_readers_of.new.steps c.loop-path-test.true c.path-item.is
-          c.loop-path.invariant.ticked
-          (subst (λ (f : GraphState). c.reach_readers_of.new.steps ≡ c.loop-path.steps + length (readers_of f path)) same c.in_ok-reach_readers_of.ensures.steps);
+          looked_more c.args.graph.now c.args.paths.now c.loop-path.path-index path c.args.steps.now c.loop-path.steps c.reach_readers_of.new.steps c.loop-path-test.true c.path-item.is
+          c.loop-path.invariant.ticked c.in_ok-reach_readers_of.ensures.steps;
     }
 
 pub returns-in_err-reach_readers_of-clause-fewer : goal.returns-in_err-reach_readers_of-clause-fewer
 returns-in_err-reach_readers_of-clause-fewer g c =
     if_err c.from_residual.result
-    (looked_less c.args.finder.now c.args.paths.now c.loop-path.path-index c.path-item.result c.args.steps.now c.loop-path.steps c.reach_readers_of.new.steps c.loop-path-test.true c.path-item.is
-    c.loop-path.invariant.ticked
-    (subst (λ (f : GraphState). c.reach_readers_of.new.steps ≤ c.loop-path.steps + length (readers_of f c.path-item.result)) c.loop-path.invariant.same c.in_err-reach_readers_of.ensures.fewer))
-
-pub returns-in_err-reach_readers_of-clause-same : goal.returns-in_err-reach_readers_of-clause-same
-returns-in_err-reach_readers_of-clause-same g c = c.in_err-reach_readers_of.ensures.same ∙ c.loop-path.invariant.same
+    (looked_less c.args.graph.now c.args.paths.now c.loop-path.path-index c.path-item.result c.args.steps.now c.loop-path.steps c.reach_readers_of.new.steps c.loop-path-test.true c.path-item.is
+    c.loop-path.invariant.ticked c.in_err-reach_readers_of.ensures.fewer)

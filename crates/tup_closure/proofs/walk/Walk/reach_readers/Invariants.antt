@@ -7,7 +7,6 @@ use Rattle.tup_closure.proofs.walk.Walk.reach_readers.Given as goal
 
 abbrev pub invariant-loop-path : goal.invariant-loop-path
 invariant-loop-path g l = record {
-  same : l.finder ≡ l.fn.finder;
-  goes : GoesTo (HasAskedOneOf l.fn.finder (take l.path-index l.paths)) l.fn.self l.self;
-  ticked : l.steps ≡ l.fn.steps + looks_at l.fn.finder (take l.path-index l.paths);
+  goes : GoesTo (HasAskedOneOf l.graph (take l.path-index l.paths)) l.fn.self l.self;
+  ticked : l.steps ≡ l.fn.steps + looks_at l.graph (take l.path-index l.paths);
 }

@@ -9,18 +9,18 @@ use Rattle.tup_closure.proofs.walk.Walk.reach_readers_of.Goals as goal
 
 pub returns-clause-goes : goal.returns-clause-goes
 returns-clause-goes g c =
-    let readers : (number : ℕ) → Contains c.deref.result.now number ↔ HasAsked c.args.finder.now number c.args.path.now =
-    subst (λ (l : List ℕ). (number : ℕ) → Contains l number ↔ HasAsked c.args.finder.now number c.args.path.now) (sym c.deref.ensures.value) c.in_ok-numbers.ensures.readers in
+    let readers : (number : ℕ) → Contains c.deref.result.now number ↔ HasAsked c.args.graph.now number c.args.path.now =
+    subst (λ (l : List ℕ). (number : ℕ) → Contains l number ↔ HasAsked c.args.graph.now number c.args.path.now) (sym c.deref.ensures.value) c.in_ok-numbers.ensures.readers in
     on_ok_weaker c.look_at.result (goes_as (λ n h. (readers n).0 h) (λ n h. (readers n).1 h)) c.look_at.ensures.goes
 
 pub returns-clause-steps : goal.returns-clause-steps
 returns-clause-steps g c =
-    let many : length c.deref.result.now ≡ length (readers_of c.args.finder.now c.args.path.now) =
-    ap (λ (l : List ℕ). length l) c.deref.ensures.value ∙ as_many c.args.path.now c.args.finder.now c.in_ok-numbers.numbers.items c.in_ok-numbers.ensures.ascending c.in_ok-numbers.ensures.readers in
+    let many : length c.deref.result.now ≡ length (readers_of c.args.graph.now c.args.path.now) =
+    ap (λ (l : List ℕ). length l) c.deref.ensures.value ∙ as_many c.args.path.now c.args.graph.now c.in_ok-numbers.numbers.items c.in_ok-numbers.ensures.ascending c.in_ok-numbers.ensures.readers in
     on_ok_weaker c.look_at.result (λ (e : c.look_at.new.steps ≡ c.args.steps.now + length c.deref.result.now). e ∙ ap (λ n. c.args.steps.now + n) many) c.look_at.ensures.steps
 
 pub returns-clause-fewer : goal.returns-clause-fewer
 returns-clause-fewer g c =
-    let many : length c.deref.result.now ≡ length (readers_of c.args.finder.now c.args.path.now) =
-    ap (λ (l : List ℕ). length l) c.deref.ensures.value ∙ as_many c.args.path.now c.args.finder.now c.in_ok-numbers.numbers.items c.in_ok-numbers.ensures.ascending c.in_ok-numbers.ensures.readers in
+    let many : length c.deref.result.now ≡ length (readers_of c.args.graph.now c.args.path.now) =
+    ap (λ (l : List ℕ). length l) c.deref.ensures.value ∙ as_many c.args.path.now c.args.graph.now c.in_ok-numbers.numbers.items c.in_ok-numbers.ensures.ascending c.in_ok-numbers.ensures.readers in
     on_err_weaker c.look_at.result (λ (less : c.look_at.new.steps ≤ c.args.steps.now + length c.deref.result.now). subst (λ n. c.look_at.new.steps ≤ c.args.steps.now + n) many less) c.look_at.ensures.fewer

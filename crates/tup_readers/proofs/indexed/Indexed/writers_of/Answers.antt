@@ -1,16 +1,22 @@
-use Rattle.std.proofs.Common.{◌↔◌, Option, subst}
-use Rattle.std.specs.Prelude.{Contains, IfSome}
+use Rattle.std.proofs.Common.{◌↔◌, List, ℕ, sym, subst, inr}
+use Rattle.std.specs.List.Sorted.{IsStrictlySortedBy}
+use Rattle.std.specs.Ordering.{nat_cmp}
+use Rattle.std.specs.Prelude.{Contains}
 use Rattle.tup_graph.specs.Graph.{GraphState}
-use Rattle.tup_readers.specs.Index.{AreUsers, HasWritten}
-use Rattle.tup_readers.specs.declared.users.Users.{Users}
+use Rattle.tup_readers.specs.Index.{HasWritten}
+use Rattle.tup_readers.proofs.Using.{all_among, user_printed}
 use Rattle.tup_readers.proofs.indexed.Indexed.writers_of.Goals as goal
 
-pub returns-in_ok-writers_of-in-Some-clause-writers : goal.returns-in_ok-writers_of-in-Some-clause-writers
-returns-in_ok-writers_of-in-Some-clause-writers c = λ number.
+pub returns-clause-writers : goal.returns-clause-writers
+returns-clause-writers c = λ number.
     let g = c.self.inside.nodes in
-    subst (λ (h : GraphState). Contains c.in_ok-writers_of-in-Some.field-0.items number ↔ HasWritten h number c.args.path.now) c.self.view_is
-    (c.in_ok-writers_of-in-Some.ensures.writers g (subst (λ (users : Option Users). IfSome users (AreUsers g.runs)) c.in-Some.is c.self.invariant.0) number)
+    let path = c.args.path.now in
+    let near = c.deref.result.now in
+    let found : (n : ℕ) → HasWritten g n path → Contains near n = λ n asked.
+    subst (λ (l : List ℕ). Contains l n) (sym c.deref.ensures.value) (c.in_ok-near.ensures.users n (user_printed g c.self.inside.prints c.self.invariant.0 path n (inr asked))) in
+    let items = c.in_ok-users_among.field-0.items in
+    subst (λ (h : GraphState). Contains items number ↔ HasWritten h number path) c.self.view_is
+    (all_among (λ n. HasWritten g n path) near items found c.in_ok-users_among.ensures.users number)
 
-pub returns-in_ok-find_users-in-None-clause-writers : goal.returns-in_ok-find_users-in-None-clause-writers
-returns-in_ok-find_users-in-None-clause-writers c = λ number.
-    subst (λ (h : GraphState). Contains c.in_ok-find_users-in-None.field-0.items number ↔ HasWritten h number c.args.path.now) c.self.view_is (c.in_ok-find_users-in-None.ensures.users number)
+pub returns-clause-ascending : goal.returns-clause-ascending
+returns-clause-ascending c = c.in_ok-users_among.ensures.ascending (subst (IsStrictlySortedBy nat_cmp) (sym c.deref.ensures.value) c.in_ok-near.ensures.ascending)

@@ -13,7 +13,7 @@ returns-in_err-nodes-clause-opens g c = λ tells.
     let is : c.from_residual-in_err-nodes.result ≡ Err c.in_err-nodes.field-0.0 = grind arith in
     subst (λ (r : Result Held GraphFault). OpensAs bytes left r) (sym is)
     (open_refused bytes left c.in_ok-table.table c.entries.result.now c.in_err-nodes.field-0.0
-    (c.in_ok-table.ensures.opens tells) (c.in_ok-table.ensures.store tells) c.entries.ensures c.in_err-nodes.ensures)
+    (c.in_ok-table.ensures.opens tells) (c.in_ok-table.ensures.store tells) c.entries.ensures c.in_err-nodes.ensures.nodes)
 
 pub returns-in_err-table-clause-opens : goal.returns-in_err-table-clause-opens
 returns-in_err-table-clause-opens g c = λ tells.
