@@ -1,17 +1,19 @@
 -- Outputs are apart just where each has one maker and a place.
-use Rattle.std.proofs.Common.{◌≡◌, ℕ, Option, Some, None, refl, sym, ◌∙◌, inl, inr}
-use Rattle.std.specs.Prelude.{IsSome, get_or}
+use Rattle.std.proofs.Common.{◌≡◌, ℕ, true, List, Option, Some, None, refl, sym, ◌∙◌, subst, inl, inr}
+use Rattle.std.specs.Prelude.{Contains, IsSome, get_or, slice_get}
 use Rattle.std.specs.FinMap as finite
 use Rattle.std.proofs.lemmas.List.Elements.{All-contains, Contains-get_or}
 use Rattle.tup_path.specs.Name.{Names}
+use Rattle.tup_rule.specs.declared.rule.Rule.{Rule}
+use Rattle.tup_rule.specs.Rule.{writes}
 use Rattle.tup_rule.proofs.Laws.{among-decides}
 use Rattle.tup_graph.specs.Graph.{GraphState}
 use Rattle.tup_core.specs.declared.plan.Plan.{Plan}
-use Rattle.tup_core.specs.Sound.{HasOneMaker}
+use Rattle.tup_core.specs.Sound.{HasNear, HasOneMaker, IsMadeBy}
 use Rattle.tup_board.specs.Outputs.{AreApart, IsToMake}
-use Rattle.tup_apart.specs.Makers.{AreOnlyMakers, IsOnlyMaker, Makers, makers_in}
+use Rattle.tup_apart.specs.Makers.{AreOnlyMakers, IsOnlyMaker, Makers, MakesOnly, makers_in, outputs_at}
 use Rattle.tup_apart.specs.Place.{HavePlaces, IsUnderFile}
-use Rattle.tup_apart.proofs.Making.{AreMakers, are_makers}
+use Rattle.tup_apart.proofs.Making.{AreMakers, a_rule, are_makers, its_outputs}
 
 module _ (g : GraphState) (plan : Plan) where
   abbrev makers : Makers
@@ -31,12 +33,19 @@ module _ (g : GraphState) (plan : Plan) where
   made : (path : Names) → IsSome (finite.get makers path) → IsToMake plan path
   made path some = let maker = its_maker path some in let it = are.makes path maker.0 maker.1 in (maker.0, it.0, it.1)
 
-  module _ (only : AreOnlyMakers makers plan.rules) (places : HavePlaces g makers) where
+  module _ (near : HasNear plan) (only : AreOnlyMakers makers plan.rules plan.near) (places : HavePlaces g makers) where
+    -- a rule that makes an output of the reach is near, and so it is its only maker
+    its_only_maker : (number : ℕ) (rule : Rule) (path : Names) → IsMadeBy plan.rules plan.reach path → slice_get plan.rules number ≡ Some rule → writes rule path ≡ true → IsOnlyMaker makers number path
+    its_only_maker number rule path made here makes =
+        All-contains (IsOnlyMaker makers number) (outputs_at plan.rules number) path
+        (All-contains (MakesOnly makers plan.rules) plan.near number only (near.each number rule path made here (inr makes)))
+        (subst (λ (paths : List Names). Contains paths path) (sym (its_outputs plan number rule here)) ((among-decides path rule.outputs).0 makes))
+
     one_maker : HasOneMaker plan
     one_maker at other rule another path reached here there makes also =
+        let made : IsMadeBy plan.rules plan.reach path = record { number = at; rule = rule; listed = reached; here = here; written = makes } in
         let maker = its_maker path (are.each path (at, reached, record { rule = rule; here = here; output = makes })) in
-        sym (All-contains (IsOnlyMaker makers at) rule.outputs path (only at rule here) ((among-decides path rule.outputs).0 makes) maker.0 maker.1)
-        ∙ All-contains (IsOnlyMaker makers other) another.outputs path (only other another there) ((among-decides path another.outputs).0 also) maker.0 maker.1
+        sym (its_only_maker at rule path made here makes maker.0 maker.1) ∙ its_only_maker other another path made there also maker.0 maker.1
 
     pub apart_is : AreApart plan g
     apart_is = record {
@@ -48,11 +57,14 @@ module _ (g : GraphState) (plan : Plan) where
     }
 
   module _ (apart : AreApart plan g) where
-    pub only_makers : AreOnlyMakers makers plan.rules
-    only_makers at rule here = λ k d within maker got.
-        let path = get_or rule.outputs k d in
+    pub only_makers : AreOnlyMakers makers plan.rules plan.near
+    only_makers = λ i n inside k d within maker got.
+        let number = get_or plan.near i n in
+        let outputs = outputs_at plan.rules number in
+        let path = get_or outputs k d in
         let makes = are.makes path maker got in
-        apart.one_maker maker at makes.1.rule rule path makes.0 makes.1.here here makes.1.output ((among-decides path rule.outputs).1 (Contains-get_or rule.outputs k d within))
+        let also = a_rule plan number path ((among-decides path outputs).1 (Contains-get_or outputs k d within)) in
+        apart.one_maker maker number makes.1.rule also.rule path makes.0 makes.1.here also.here makes.1.output also.output
 
     pub have_places : HavePlaces g makers
     have_places path some = record {

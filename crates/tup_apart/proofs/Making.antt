@@ -42,20 +42,21 @@ none_yet plan = record {
   each = λ path number here makes. absurd (omega (arith, here.1));
 }
 
-module _ (plan : Plan) (numbers : List ℕ) (number : ℕ) (old : Makers) (before : AreMakersAmong plan numbers old) where
-  abbrev new : Makers
-  new = with_outputs plan.rules old number
+-- what a rule makes stands among its outputs, and the other way round
+module _ (plan : Plan) (number : ℕ) where
+  pub its_outputs : (rule : Rule) → slice_get plan.rules number ≡ Some rule → outputs_at plan.rules number ≡ rule.outputs
+  its_outputs rule here = ap (λ (o : Option Rule). unwrap_or (option_map (λ (r : Rule). r.outputs) o) []) here
 
-  -- what such a rule makes stands among its outputs, and the other way round
-  its_output : (path : Names) (rule : Rule) → slice_get plan.rules number ≡ Some rule → outputs_at plan.rules number ≡ rule.outputs
-  its_output path rule here = ap (λ (o : Option Rule). unwrap_or (option_map (λ (r : Rule). r.outputs) o) []) here
-
-  a_rule : (path : Names) → among path (outputs_at plan.rules number) ≡ true → Makes plan number path
+  pub a_rule : (path : Names) → among path (outputs_at plan.rules number) ≡ true → Makes plan number path
   a_rule path made = by (slice_get plan.rules number) refl
     where
       by : (o : Option Rule) → slice_get plan.rules number ≡ o → Makes plan number path
-      by (Some rule) here = record { rule = rule; here = here; output = ap (among path) (sym (its_output path rule here)) ∙ made }
+      by (Some rule) here = record { rule = rule; here = here; output = ap (among path) (sym (its_outputs rule here)) ∙ made }
       by None here = absurd (false≢true (sym (ap (λ (o : Option Rule). among path (unwrap_or (option_map (λ (r : Rule). r.outputs) o) [])) here) ∙ made))
+
+module _ (plan : Plan) (numbers : List ℕ) (number : ℕ) (old : Makers) (before : AreMakersAmong plan numbers old) where
+  abbrev new : Makers
+  new = with_outputs plan.rules old number
 
   got_now : (path : Names) → finite.get new path ≡ cond (among path (outputs_at plan.rules number)) (Some number) (finite.get old path)
   got_now path = with_all number old (outputs_at plan.rules number) path
@@ -65,7 +66,7 @@ module _ (plan : Plan) (numbers : List ℕ) (number : ℕ) (old : Makers) (befor
     makes = λ path other got. elim (cases_Bool (among path (outputs_at plan.rules number))) [
       | inl made ↦
           let same : number ≡ other = same_Some number other (sym (ap (λ (b : Bool). cond b (Some number) (finite.get old path)) made) ∙ sym (got_now path) ∙ got) in
-          subst (λ (n : ℕ). Contains (numbers ++ number ∷ []) n × Makes plan n path) same (Contains-push numbers number, a_rule path made)
+          subst (λ (n : ℕ). Contains (numbers ++ number ∷ []) n × Makes plan n path) same (Contains-push numbers number, a_rule plan number path made)
       | inr not_made ↦
           let earlier = before.makes path other (sym (ap (λ (b : Bool). cond b (Some number) (finite.get old path)) not_made) ∙ sym (got_now path) ∙ got) in
           (Contains-append_left numbers (number ∷ []) other earlier.0, earlier.1)
@@ -74,7 +75,7 @@ module _ (plan : Plan) (numbers : List ℕ) (number : ℕ) (old : Makers) (befor
       | inl earlier ↦ kept (among path (outputs_at plan.rules number)) (finite.get old path) (before.each path other earlier makes)
       | inr same ↦
           let here = ap (slice_get plan.rules) same ∙ makes.here in
-          made_now (among path (outputs_at plan.rules number)) (finite.get old path) (ap (among path) (its_output path makes.rule here) ∙ makes.output)
+          made_now (among path (outputs_at plan.rules number)) (finite.get old path) (ap (among path) (its_outputs plan number makes.rule here) ∙ makes.output)
     ]);
   }
     where

@@ -36,7 +36,7 @@ module _ (g : GraphState) (plan : Plan) (planned : IsPlanned g plan) where
 
     -- and it may be run where the other tests are passed too
     pub may_be_run : OutputsOnce plan.rules → AreApart plan g → MayRun g plan
-    may_be_run once apart = record { plan = record { rules = planned.rules; reach = reached; in_range = planned.range }; reach = planned.reach; apart = apart; once = once }
+    may_be_run once apart = record { plan = record { rules = planned.rules; reach = reached; in_range = planned.range; near = planned.near }; reach = planned.reach; apart = apart; once = once }
 
   pub runs_flagged : MayRun g plan → All (λ (number : ℕ). is_flagged g number ≡ true) plan.reach
   runs_flagged may = λ at number within.
@@ -74,7 +74,7 @@ module _ (g : GraphState) (plan : Plan) (planned : IsPlanned g plan) where
 
     pub as_another : MayRun g plan
     as_another = record {
-      plan = record { rules = planned.rules; reach = reach_is; in_range = planned.range };
+      plan = record { rules = planned.rules; reach = reach_is; in_range = planned.range; near = planned.near };
       reach = planned.reach;
       apart = record {
         not_top = λ path makes. may.apart.not_top path (to_make path makes);

@@ -28,8 +28,12 @@ makers_in plan = fold (with_outputs plan.rules) finite.empty plan.reach
 
 -- who makes a path, if it is among these, is the rule of this number
 abbrev pub IsOnlyMaker : Makers → ℕ → Names → Type 0
-IsOnlyMaker makers at path = (maker : ℕ) → finite.get makers path ≡ Some maker → maker ≡ at
+IsOnlyMaker makers number path = (maker : ℕ) → finite.get makers path ≡ Some maker → maker ≡ number
 
--- what a rule makes of these no other rule makes
-abbrev pub AreOnlyMakers : Makers → List Rule → Type 0
-AreOnlyMakers makers rules = (at : ℕ) (rule : Rule) → slice_get rules at ≡ Some rule → All (IsOnlyMaker makers at) rule.outputs
+-- what the rule of a number makes of these no other rule makes
+abbrev pub MakesOnly : Makers → List Rule → ℕ → Type 0
+MakesOnly makers rules number = All (IsOnlyMaker makers number) (outputs_at rules number)
+
+-- nor what the rules of some numbers make of these
+abbrev pub AreOnlyMakers : Makers → List Rule → List ℕ → Type 0
+AreOnlyMakers makers rules numbers = All (MakesOnly makers rules) numbers

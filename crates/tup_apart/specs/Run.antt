@@ -5,7 +5,7 @@ use Rattle.tup_path.specs.Order.{same_path}
 use Rattle.tup_rule.specs.declared.rule.Rule.{Rule}
 use Rattle.tup_graph.specs.Graph.{GraphState}
 use Rattle.tup_core.specs.declared.plan.Plan.{Plan}
-use Rattle.tup_core.specs.Sound.{IsInRange}
+use Rattle.tup_core.specs.Sound.{HasNear, IsInRange}
 use Rattle.tup_partial.specs.Plan.{IsToRun}
 use Rattle.tup_board.specs.Outputs.{AreApart, IsPlanOf}
 
@@ -13,11 +13,12 @@ use Rattle.tup_board.specs.Outputs.{AreApart, IsPlanOf}
 abbrev pub OutputsOnce : List Rule → Type 0
 OutputsOnce rules = (number : ℕ) (rule : Rule) → slice_get rules number ≡ Some rule → IsDistinct same_path rule.outputs
 
--- a plan has the rules of a graph, and runs those that are to be run
+-- a plan has the rules of a graph, runs those that are to be run, and notes which are near these
 pub record IsPlanned (g : GraphState) (plan : Plan) : Type 0 where
   pub rules : plan.rules ≡ g.rules
   pub reach : (number : ℕ) → Contains plan.reach number ↔ IsToRun g number
   pub range : IsInRange plan
+  pub near : HasNear plan
 
 -- a board may run such a plan over the graph: it runs just the flagged rules, each of their outputs can be a file beside
 -- all other files and has one maker, and no rule names an output twice

@@ -1,6 +1,6 @@
 //! Who makes the outputs that a plan makes.
-ghost use Rattle.std.specs.Prelude.{◌≡◌, ◌↔◌, All, IfOk, OnOk, IsTrue, fold};
-ghost use Rattle.tup_apart.specs.Makers.{AreOnlyMakers, IsOnlyMaker, makers_in, with_maker, with_outputs};
+ghost use Rattle.std.specs.Prelude.{◌≡◌, ◌↔◌, IfOk, OnOk, IsTrue, fold};
+ghost use Rattle.tup_apart.specs.Makers.{AreOnlyMakers, IsOnlyMaker, MakesOnly, makers_in, outputs_at, with_maker, with_outputs};
 
 use std::alloc::{AllocError, Global};
 use tup_core::Plan;
@@ -22,10 +22,7 @@ pub(crate) fn makers_of(alloc: Global, plan: &Plan) -> Result<ByPath<u32>, Alloc
 fn add_rule(makers: &mut ByPath<u32>, rules: &[Rule], number: u32) -> Result<(), AllocError>
     ensures { OnOk result (makers.new ≡ with_outputs rules.now makers.old number) }
 {
-    match rules.get(number as usize) {
-        Some(rule) => add_outputs(makers, rule.outputs.as_slice(), number),
-        None => Ok(()),
-    }
+    add_outputs(makers, outputs_of(rules, number), number)
 }
 
 fn add_outputs(makers: &mut ByPath<u32>, outputs: &[Path], number: u32) -> Result<(), AllocError>
@@ -37,30 +34,42 @@ fn add_outputs(makers: &mut ByPath<u32>, outputs: &[Path], number: u32) -> Resul
     Ok(())
 }
 
-/// Whether no other rule makes one of these outputs.
-pub(crate) fn have_one_maker(makers: &ByPath<u32>, rules: &[Rule]) -> bool
-    ensures { IsTrue result ↔ AreOnlyMakers makers.now rules.now }
+/// The outputs of the rule of a number; none where no rule has it.
+fn outputs_of(rules: &[Rule], number: u32) -> &[Path]
+    ensures { result.now ≡ outputs_at rules.now number }
 {
-    for (at, rule) in rules.iter().enumerate() {
-        if !makes_only(makers, rule.outputs.as_slice(), at) {
+    match rules.get(number as usize) {
+        Some(rule) => rule.outputs.as_slice(),
+        None => &[],
+    }
+}
+
+/// Whether what the rules of some numbers make of these outputs no other rule makes.
+pub(crate) fn have_one_maker(makers: &ByPath<u32>, rules: &[Rule], numbers: &[u32]) -> bool
+    ensures { IsTrue result ↔ AreOnlyMakers makers.now rules.now numbers.now }
+{
+    for number in numbers {
+        if !makes_only(makers, rules, *number) {
             return false;
         }
     }
     true
 }
 
-/// Whether a rule makes those of its outputs that are among these.
-fn makes_only(makers: &ByPath<u32>, outputs: &[Path], at: usize) -> bool
-    ensures { IsTrue result ↔ All (IsOnlyMaker makers.now at) outputs.now }
+/// Whether the rule of a number makes those of its outputs that are among these.
+fn makes_only(makers: &ByPath<u32>, rules: &[Rule], number: u32) -> bool
+    ensures { IsTrue result ↔ MakesOnly makers.now rules.now number }
 {
-    outputs.iter().all(|path| is_only_maker(makers, path, at))
+    outputs_of(rules, number)
+        .iter()
+        .all(|path| is_only_maker(makers, path, number))
 }
 
-fn is_only_maker(makers: &ByPath<u32>, path: &Path, at: usize) -> bool
-    ensures { IsTrue result ↔ IsOnlyMaker makers.now at path.now }
+fn is_only_maker(makers: &ByPath<u32>, path: &Path, number: u32) -> bool
+    ensures { IsTrue result ↔ IsOnlyMaker makers.now number path.now }
 {
     match makers.get(path) {
-        Some(maker) => *maker as usize == at,
+        Some(maker) => *maker == number,
         None => true,
     }
 }

@@ -2,7 +2,7 @@
 ghost use Rattle.std.specs.Prelude.{◌≡◌, ◌↔◌, ◌<◌, ℕ, true, All, Contains, IfOk, IfSome, IsTrue, None, Ok};
 ghost use Rattle.std.specs.List.Sorted.{IsStrictlySortedBy};
 ghost use Rattle.std.specs.Ordering.{nat_cmp};
-ghost use Rattle.tup_core.specs.Sound.{IsInRange};
+ghost use Rattle.tup_core.specs.Sound.{HasNear};
 ghost use Rattle.tup_core.specs.declared.plan.Plan.{Plan as PlanValue};
 ghost use Rattle.tup_graph.specs.Graph.{is_flagged};
 ghost use Rattle.tup_partial.specs.Plan.{IsToRun};
@@ -95,12 +95,14 @@ fn are_flagged(nodes: &Nodes, numbers: &[u32]) -> bool
     numbers.iter().all(|number| nodes.flagged(*number))
 }
 
-/// Whether the outputs that a plan makes can all be files, beside those that were seen, and each has one maker.
+/// Whether the outputs that a plan makes can all be files, beside those that were seen, and each has one maker. Another one
+/// would be among the rules that are near.
 fn are_apart(alloc: Global, nodes: &Nodes, plan: &Plan) -> Result<bool, AllocError>
+    requires { HasNear plan.now }
     ensures { IfOk result (λ apart. IsTrue apart ↔ AreApart plan.now nodes.now) }
 {
     let makers = makers_of(alloc, plan)?;
-    if !have_one_maker(&makers, plan.rules.as_slice()) {
+    if !have_one_maker(&makers, plan.rules.as_slice(), plan.near.as_slice()) {
         return Ok(false);
     }
     have_places(alloc, nodes, &makers)

@@ -8,7 +8,7 @@ use Rattle.tup_rule.specs.Rule.{writes}
 use Rattle.tup_graph.specs.Graph.{GraphState, is_flagged}
 use Rattle.tup_core.specs.declared.plan.Plan.{Plan}
 use Rattle.tup_core.specs.Step.{State, is_reached}
-use Rattle.tup_core.specs.Sound.{HasOneMaker, IsInRange}
+use Rattle.tup_core.specs.Sound.{HasNear, HasOneMaker, IsInRange}
 
 -- the rule of a number makes a path
 pub record Makes (plan : Plan) (number : ℕ) (path : Names) : Type 0 where
@@ -37,8 +37,9 @@ pub record AreApart (plan : Plan) (g : GraphState) : Type 0 where
   pub above_other : (path other : Names) → IsToMake plan path → IsToMake plan other → IsBelow path other → ⊥
   pub one_maker : HasOneMaker plan
 
--- a plan is one of a graph: it has its rules, and runs those that are flagged
+-- a plan is one of a graph: it has its rules, runs those that are flagged, and notes which are near
 pub record IsPlanOf (g : GraphState) (plan : Plan) : Type 0 where
   pub rules : plan.rules ≡ g.rules
   pub reach : (number : ℕ) → is_reached plan number ≡ is_flagged g number
   pub in_range : IsInRange plan
+  pub near : HasNear plan

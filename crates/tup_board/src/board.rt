@@ -6,7 +6,7 @@ ghost use Rattle.tup_table.specs.Table.{entries_in};
 ghost use Rattle.tup_graph.specs.Opening.{IsGraphOf};
 ghost use Rattle.tup_core.specs.Honest.{IsHonest};
 ghost use Rattle.tup_core.specs.Run.{IsRun};
-ghost use Rattle.tup_core.specs.Sound.{IsInRange};
+ghost use Rattle.tup_core.specs.Sound.{HasNear, IsInRange};
 ghost use Rattle.tup_core.specs.declared.event.Cause.TheVariants.{Run, Memory as NoMemory};
 
 use crate::answers::BoardParts;
@@ -219,7 +219,8 @@ fn parts_of<S: Site>(ground: Ground<S>, course: Course, cause: Option<Cause>) ->
 
 /// The opening of a plan over the files that a graph has seen.
 fn opened(alloc: Global, nodes: &Nodes, plan: &Plan) -> Result<Course, AllocError>
-    requires { IsInRange plan.now }
+    requires range { IsInRange plan.now }
+    requires near { HasNear plan.now }
     ensures { IfOk result (λ course. course
         ≡ record { plan = plan.now; files = finite.entries nodes.now.seen; history = [] }) }
 {

@@ -1,7 +1,7 @@
 -- What a command may ask for, told without the set of all outputs; and a core that has come to know the outputs in another way.
 use Rattle.std.specs.Prelude.{◌≡◌, ℕ, Bool, true, false, nat_le, if◌then◌else◌, List, [], Result, Ok, Err}
 use Rattle.std.proofs.Common.{inl, inr, subst, ap}
-use Rattle.std.specs.BTreeSet.{BTreeSet, contains}
+use Rattle.std.specs.BTreeSet.{BTreeSet}
 use Rattle.std.specs.List.{list_any}
 use Rattle.std.specs.Ordering.{eq_by_cmp}
 use Rattle.tup_path.specs.declared.fault.PathFault.{PathFault}
@@ -10,7 +10,6 @@ use Rattle.tup_path.specs.Name.{Names}
 use Rattle.tup_path.specs.Order.{by_names}
 use Rattle.tup_path.specs.Resolve.{resolve}
 use Rattle.tup_rule.specs.declared.rule.Rule.{Rule}
-use Rattle.tup_access.specs.declared.fault.AccessFault.{AccessFault}
 use Rattle.tup_access.specs.declared.fault.AccessFault.TheVariants.{Memory}
 use Rattle.tup_access.specs.declared.verdict.Verdict.{Verdict}
 use Rattle.tup_access.specs.declared.verdict.Verdict.TheVariants.{IllegalRead, TooManyReads}

@@ -70,7 +70,7 @@ abbrev tree : Tree
 tree = finite.insert (finite.insert finite.empty file_a []) file_b []
 
 abbrev plan : Plan
-plan = record { rules = first ∷ second ∷ []; reach = 1 ∷ []; keep_going = false }
+plan = record { rules = first ∷ second ∷ []; reach = 1 ∷ []; near = 1 ∷ []; keep_going = false }
 
 abbrev files : List (Names × Stamp)
 files = (file_a, seen_stamp) ∷ (file_b, seen_stamp) ∷ []

@@ -15,6 +15,7 @@ mod BadLast
 pub mod Example
 pub mod ItemLaws
 mod WalkLaws
+mod NearLaws
 mod LinksLaws
 pub mod WaitingLaws
 mod FilesLaws

@@ -1,10 +1,10 @@
 -- Who reads what the reached rules make: a map of makers and lists of readers, as they are filled.
 use Rattle.std.proofs.Common.{◌≡◌, ℕ, zero, suc, ◌+◌, ◌<◌, ◌≤◌, ◌==◌, Bool, true, false, not, ◌&&◌, ◌||◌, cond, eqb, List, [], ◌∷◌, ◌++◌, length, get_or, take, replicate, Option, None, Some, refl, sym, ap, ◌∙◌, subst, inl, inr, arith}
-use Rattle.std.specs.Prelude.{if◌then◌else◌, is_some, nat_lt, slice_get, unwrap_or}
+use Rattle.std.specs.Prelude.{Contains, if◌then◌else◌, is_some, nat_lt, slice_get, unwrap_or}
 use Rattle.std.specs.BTreeMap.{get, is_at}
 use Rattle.std.specs.Map.{lookup}
 use Rattle.std.specs.BTreeSet.{BTreeSet, contains}
-use Rattle.std.specs.List.{position, position_or_len}
+use Rattle.std.specs.List.{list_any, position, position_or_len}
 use Rattle.std.specs.Option.{option_or}
 use Rattle.std.specs.Ordering.{eq_by_cmp}
 use Rattle.std.proofs.lemmas.Bool.{true≢false, cases_eq, cases_lt, or_cases, or_left, or_right, and_parts, not-true, eq-eqb, eqb-true, ne_eqb, lt-ltb, le-ltb}
@@ -22,7 +22,8 @@ use Rattle.tup_rule.proofs.Laws.{maker-Some}
 use Rattle.tup_clean.specs.Queue.{count_of, AreBelow, IsNoted}
 use Rattle.tup_clean.proofs.Counting.{count_of-take}
 use Rattle.tup_clean.proofs.Places.{some_place}
-use Rattle.tup_core.specs.Links.{is_one_of, AreRules, IsReachOf, AreNear, AreListed, AreMade, AreUp, HasMakersIn, AddsMakerIn}
+use Rattle.tup_core.specs.Sound.{AreNamersOf, IsMadeBy}
+use Rattle.tup_core.specs.Links.{is_one_of, HasMaker, IsIn, AreRules, IsReachOf, AreNear, AreListed, AreMade, AreUp, HasMakersIn, AddsMakerIn}
 use Rattle.tup_core.specs.Waiting.{flag, times}
 use Rattle.tup_core.proofs.FilesLaws.{same_key}
 use Rattle.tup_core.proofs.WaitingLaws.{makes_one, counts_one, there, entry_of}
@@ -34,21 +35,49 @@ next_rule rules numbers i are less = are (get_or numbers i 0) (list_any_at (λ n
 
 -- ---- outputs of rules
 
-pub made_none : (rules : List Rule) (set : BTreeSet Names) → AreMade rules [] set
-made_none rules set at rule path found = absurd (true≢false (sym found))
+pub made_none : (rules : List Rule) (set : BTreeSet Names) → set.keys ≡ [] → AreMade rules [] set
+made_none rules set none = record {
+  all = λ path made. absurd (true≢false (sym made.listed));
+  only = λ path found. absurd (true≢false (sym found ∙ ap (list_any (is_at (by_names path))) none));
+}
 
 pub made_more : (rules : List Rule) (numbers : List ℕ) (i : ℕ) (item : Rule) (outputs : List Names) (old new : BTreeSet Names) → i < length numbers → get_or numbers i 0 < length rules → item ≡ get_or rules (get_or numbers i 0) item →
     outputs ≡ item.outputs → ((path : Names) → contains by_names new path ≡ (contains by_names old path || among path outputs)) → AreMade rules (take i numbers) old → AreMade rules (take (i + 1) numbers) new
-made_more rules numbers i item outputs old new less within is its adds made at rule path found here written =
-    adds path
-    ∙ elim (or_cases (is_one_of (take i numbers) at) (at == get_or numbers i 0) (sym (list_any_more (λ number. at == number) numbers i 0 less) ∙ found)) [
-      | inl before ↦ or_left (contains by_names old path) (among path outputs) (made at rule path before here written)
-      | inr last ↦
-          let same : at ≡ get_or numbers i 0 = eqb-true at (get_or numbers i 0) last in
-          let placed : slice_get rules (get_or numbers i 0) ≡ Some item = slice_get-get_or rules (get_or numbers i 0) item within ∙ ap Some (sym is) in
-          let equal : item ≡ rule = same_Some item rule (sym placed ∙ ap (slice_get rules) (sym same) ∙ here) in
-          or_right (contains by_names old path) (among path outputs) (ap (among path) its ∙ ap (λ (r : Rule). writes r path) equal ∙ written)
-    ]
+made_more rules numbers i item outputs old new less within is its adds made = record {
+  all = λ path one.
+      adds path
+      ∙ elim (or_cases (is_one_of (take i numbers) one.number) (one.number == get_or numbers i 0) (sym (more one.number) ∙ one.listed)) [
+        | inl before ↦ or_left (contains by_names old path) (among path outputs) (made.all path (record { number = one.number; rule = one.rule; listed = before; here = one.here; written = one.written }))
+        | inr last ↦
+            let same : one.number ≡ get_or numbers i 0 = eqb-true one.number (get_or numbers i 0) last in
+            let equal : item ≡ one.rule = same_Some item one.rule (sym placed ∙ ap (slice_get rules) (sym same) ∙ one.here) in
+            or_right (contains by_names old path) (among path outputs) (ap (among path) its ∙ ap (λ (r : Rule). writes r path) equal ∙ one.written)
+      ];
+  only = λ path found. elim (or_cases (contains by_names old path) (among path outputs) (sym (adds path) ∙ found)) [
+    | inl before ↦
+        let one = made.only path before in
+        record {
+          number = one.number;
+          rule = one.rule;
+          listed = more one.number ∙ or_left (is_one_of (take i numbers) one.number) (one.number == get_or numbers i 0) one.listed;
+          here = one.here;
+          written = one.written;
+        }
+    | inr last ↦ record {
+      number = get_or numbers i 0;
+      rule = item;
+      listed = more (get_or numbers i 0) ∙ or_right (is_one_of (take i numbers) (get_or numbers i 0)) (get_or numbers i 0 == get_or numbers i 0) (eq-eqb (get_or numbers i 0) (get_or numbers i 0) refl);
+      here = placed;
+      written = ap (among path) (sym its) ∙ last;
+    }
+  ];
+}
+  where
+    more : (at : ℕ) → is_one_of (take (i + 1) numbers) at ≡ (is_one_of (take i numbers) at || at == get_or numbers i 0)
+    more at = list_any_more (λ number. at == number) numbers i 0 less
+
+    placed : slice_get rules (get_or numbers i 0) ≡ Some item
+    placed = slice_get-get_or rules (get_or numbers i 0) item within ∙ ap Some (sym is)
 
 -- ---- one more at the end
 
@@ -154,12 +183,34 @@ makers_more set rules at rule old new has less here adds = record {
     by true o made = refl
     by false o made = refl
 
+-- a rule that makes nothing of it
+pub makers_idle : (set : BTreeSet Names) (rules : List Rule) (near : List ℕ) (makers : MakerMap) → AreNamersOf rules (IsIn set) near → (at : ℕ) → at < length rules → (Contains near at → ⊥) → HasMakersIn set (take at rules) makers → HasMakersIn set (take (at + 1) rules) makers
+makers_idle set rules near makers namers at within apart has =
+    let found = some_place rules at within in
+    let is : found.0 ≡ get_or rules at found.0 = same_Some found.0 (get_or rules at found.0) (sym found.1 ∙ slice_get-get_or rules at found.0 within) in
+    makers_more set rules at found.0 makers makers has within is
+    (record { each = λ path. stays (get by_names makers path) (contains by_names set path) (writes found.0 path) (λ known made. apart (namers.each at found.0 path known found.1 (inr made))) })
+  where
+    stays : (o : Option ℕ) (known made : Bool) → (known ≡ true → made ≡ true → ⊥) → o ≡ option_or o (if known && made then Some at else None)
+    stays (Some n) known made never = refl
+    stays None true true never = absurd (never refl refl)
+    stays None true false never = refl
+    stays None false made never = refl
+
 -- what the map has is the maker of a path
 pub made_maker : (set : BTreeSet Names) (rules : List Rule) (makers : MakerMap) (path : Names) (at : ℕ) → HasMakersIn set rules makers → get by_names makers path ≡ Some at → maker path rules ≡ Some at
 made_maker set rules makers path at has is = by (contains by_names set path) (sym (has.each path) ∙ is)
   where
     by : (b : Bool) → (if b then maker path rules else None) ≡ Some at → maker path rules ≡ Some at
     by true some = some
+    by false none = absurd (none-some at none)
+
+-- and the path is in the set
+pub made_known : (set : BTreeSet Names) (rules : List Rule) (makers : MakerMap) → HasMakersIn set rules makers → (path : Names) → HasMaker makers path → IsIn set path
+made_known set rules makers has path (at, is) = by (contains by_names set path) (sym (has.each path) ∙ is)
+  where
+    by : (b : Bool) → (if b then maker path rules else None) ≡ Some at → b ≡ true
+    by true some = refl
     by false none = absurd (none-some at none)
 
 pub made_within : (set : BTreeSet Names) (rules : List Rule) (makers : MakerMap) → HasMakersIn set rules makers → (path : Names) (at : ℕ) → get by_names makers path ≡ Some at → at < length rules
@@ -214,6 +265,23 @@ listed_more rules makers i item old new listed less is noted = record {
         let none : ◌≡◌ {A = ℕ} (if i == at then count_of other (producers_in makers item) else 0) 0 = ap (λ (b : Bool). if b then count_of other (producers_in makers item) else 0) (ne_eqb i at (λ same. apart (sym same))) in
         omega (arith, none, counts)
 
+-- a rule that declares nothing of the map
+pub listed_idle : (rules : List Rule) (near : List ℕ) (makers : MakerMap) (lists : List (List ℕ)) → AreNamersOf rules (HasMaker makers) near → (at : ℕ) → at < length rules → (Contains near at → ⊥) → AreListed rules makers at lists → AreListed rules makers (at + 1) lists
+listed_idle rules near makers lists namers at within apart listed =
+    let found = some_place rules at within in
+    let is : found.0 ≡ get_or rules at found.0 = same_Some found.0 (get_or rules at found.0) (sym found.1 ∙ slice_get-get_or rules at found.0 within) in
+    listed_more rules makers at found.0 lists lists listed within is
+    (record { many = refl; each = λ other list here. (list, here, λ k. stays (count_of k list) (count_of other (producers_in makers found.0)) (at == k) (λ some. declares_none found.0 found.1 other some)) })
+  where
+    declares_none : (rule : Rule) → slice_get rules at ≡ Some rule → (other : ℕ) → 0 < count_of other (producers_in makers rule) → ⊥
+    declares_none rule here other some =
+        let one = makes_one (λ path. get by_names makers path) (rule.inputs ++ rule.order) other some in
+        apart (namers.each at rule one.0 (other, one.2) here (inl (sym (list_any-append (same_path one.0) rule.inputs rule.order) ∙ one.1)))
+
+    stays : (n m : ℕ) (b : Bool) → (0 < m → ⊥) → n ≡ n + (if b then m else 0)
+    stays n m true none = elim (cases_lt 0 m) [ inl some ↦ absurd (none some) | inr all ↦ omega (arith, all) ]
+    stays n m false none = omega arith
+
 -- what a rule declares, a map finds among the rules
 pub producers_within : (makers : MakerMap) (rule : Rule) (bound : ℕ) → ((path : Names) (at : ℕ) → get by_names makers path ≡ Some at → at < bound) → AreBelow (producers_in makers rule) bound
 producers_within makers rule bound within at some = let one = makes_one (λ path. get by_names makers path) (rule.inputs ++ rule.order) at some in within one.0 at one.2
@@ -233,7 +301,7 @@ near_of rules reached numbers set makers lists reach made has listed = record {
   first = λ other at rule up here (path, declared, makes).
       let maker_is = maker-Some rules path other makes in
       let within : other < length lists = subst (λ (n : ℕ). other < n) (sym listed.many) (slice_get_within rules other maker_is.rule maker_is.here) in
-      let known = made other maker_is.rule path (reach.all other up) maker_is.here maker_is.writes_it in
+      let known = made.all path (record { number = other; rule = maker_is.rule; listed = reach.all other up; here = maker_is.here; written = maker_is.writes_it }) in
       let found : get by_names makers path ≡ Some other = has.each path ∙ ap (λ (b : Bool). if b then maker path rules else None) known ∙ makes in
       let some = counts_one (λ p. get by_names makers p) (rule.inputs ++ rule.order) path other (list_any-append (same_path path) rule.inputs rule.order ∙ declared) found in
       subst (λ (n : ℕ). 0 < n) (sym (listed.each at other rule (unwrap_or (slice_get lists other) []) (slice_get_within rules at rule here) here (entry_of lists other within))) some;

@@ -11,6 +11,7 @@ use Rattle.tup_rule.specs.Makers.{MakerMap, producers_in}
 use Rattle.tup_rule.specs.Producer.{MakesFor}
 use Rattle.tup_rule.specs.Rule.{among, maker, writes}
 use Rattle.tup_clean.specs.Queue.{count_of}
+use Rattle.tup_core.specs.Sound.{IsMadeBy}
 use Rattle.tup_core.specs.Waiting.{flag, times}
 
 -- a rule has those alone in its list that declare what it makes
@@ -49,9 +50,18 @@ pub record IsReachOf (rules : List Rule) (flags : List Bool) (numbers : List ℕ
   pub places : AreRules rules numbers
   pub all : (at : ℕ) → flag flags at ≡ true → is_one_of numbers at ≡ true
 
--- a set has the outputs of the rules with some numbers
-abbrev pub AreMade : List Rule → List ℕ → BTreeSet Names → Type 0
-AreMade rules numbers set = (at : ℕ) (rule : Rule) (path : Names) → is_one_of numbers at ≡ true → slice_get rules at ≡ Some rule → writes rule path ≡ true → contains by_names set path ≡ true
+-- a path is in a set
+abbrev pub IsIn : BTreeSet Names → Names → Type 0
+IsIn set path = contains by_names set path ≡ true
+
+-- a set has just the outputs of the rules with some numbers
+pub record AreMade (rules : List Rule) (numbers : List ℕ) (set : BTreeSet Names) : Type 0 where
+  pub all : (path : Names) → IsMadeBy rules numbers path → IsIn set path
+  pub only : (path : Names) → IsIn set path → IsMadeBy rules numbers path
+
+-- a map has a maker of a path
+abbrev pub HasMaker : MakerMap → Names → Type 0
+HasMaker makers path = (at : ℕ) × (get by_names makers path ≡ Some at)
 
 -- a map that has just the makers of the paths of a set
 pub record HasMakersIn (set : BTreeSet Names) (rules : List Rule) (makers : MakerMap) : Type 0 where

@@ -1,4 +1,4 @@
-//! Who reads what the reached rules make, found without the readers of all other rules.
+//! Who reads what the reached rules make, found without a look at all other rules.
 ghost use Rattle.std.specs.Prelude.{◌≡◌, ◌∷◌, ◌&&◌, ◌<◌, [], ℕ, Bool, List, true, Some, not, IfOk, OnOk, IsTrue, is_some, length, replicate};
 ghost use Rattle.std.specs.BTreeMap.{get};
 ghost use Rattle.std.specs.BTreeSet.{contains};
@@ -6,7 +6,8 @@ ghost use Rattle.tup_path.specs.Name.{Names};
 ghost use Rattle.tup_path.specs.Order.{by_names};
 ghost use Rattle.tup_rule.specs.Makers.{producers_in};
 ghost use Rattle.tup_clean.specs.Queue.{count_of, AreBelow, IsNoted};
-ghost use Rattle.tup_core.specs.Links.{IsReachOf, AreRules, AreLinks, AreListed, AreMade, AreNear, AreUp, HasMakersIn, AddsMakerIn};
+ghost use Rattle.tup_core.specs.Sound.{AreNamersOf, IsMadeBy};
+ghost use Rattle.tup_core.specs.Links.{HasMaker, IsIn, IsReachOf, AreRules, AreLinks, AreListed, AreMade, AreNear, AreUp, HasMakersIn, AddsMakerIn};
 ghost use Rattle.tup_core.specs.Waiting.{flag};
 
 use crate::start::is_up;
@@ -23,28 +24,37 @@ pub(crate) fn links(
     alloc: Global,
     rules: &[Rule],
     reach: &[u32],
+    near: &[u32],
     reached: &[bool],
 ) -> Result<Vec<Places>, AllocError>
     requires reach { IsReachOf rules.now reached.now reach.now }
+    requires near { AreNamersOf rules.now (IsMadeBy rules.now reach.now) near.now }
     requires reached { length reached.now ≡ length rules.now }
     ensures { IfOk result (λ lists. AreLinks rules.now reached.now lists.items) }
 {
-    let near = near_readers(alloc, rules, reach)?;
-    if are_up(&near, reached) {
-        return Ok(near);
+    let lists = near_readers(alloc, rules, reach, near)?;
+    if are_up(&lists, reached) {
+        return Ok(lists);
     }
     readers(alloc, rules)
 }
 
-/// The readers of the reached rules, and of no others but those that make an output of a reached one before it.
-fn near_readers(alloc: Global, rules: &[Rule], reach: &[u32]) -> Result<Vec<Places>, AllocError>
-    requires { AreRules rules.now reach.now }
+/// The readers of the reached rules, and of no others but those that make an output of a reached one before it. `near` are
+/// the rules that declare or make such an output, and maybe others.
+fn near_readers(
+    alloc: Global,
+    rules: &[Rule],
+    reach: &[u32],
+    near: &[u32],
+) -> Result<Vec<Places>, AllocError>
+    requires reach { AreRules rules.now reach.now }
+    requires near { AreNamersOf rules.now (IsMadeBy rules.now reach.now) near.now }
     ensures { IfOk result (λ lists. (flags : List Bool) → IsReachOf rules.now flags reach.now
         → AreNear rules.now flags lists.items) }
 {
     let made = made_by(alloc, rules, reach)?;
-    let makers = makers_of(alloc, rules, &made)?;
-    readers_by(alloc, rules, &makers)
+    let makers = makers_of(alloc, rules, near, &made)?;
+    readers_by(alloc, rules, near, &makers)
 }
 
 /// The outputs of the rules with some numbers.
@@ -59,13 +69,20 @@ fn made_by(alloc: Global, rules: &[Rule], reach: &[u32]) -> Result<BTreeSet<Path
     Ok(made)
 }
 
-/// The makers of some paths.
-fn makers_of(alloc: Global, rules: &[Rule], made: &BTreeSet<Path>) -> Result<Makers, AllocError>
+/// The makers of some paths, which are all among the rules with these numbers.
+fn makers_of(
+    alloc: Global,
+    rules: &[Rule],
+    near: &[u32],
+    made: &BTreeSet<Path>,
+) -> Result<Makers, AllocError>
+    requires { AreNamersOf rules.now (IsIn made.now) near.now }
     ensures { IfOk result (HasMakersIn made.now rules.now) }
 {
     let mut makers = BTreeMap::new(alloc);
-    for (at, rule) in rules.iter().enumerate() {
-        add_made(&mut makers, made, rule.outputs.as_slice(), at)?;
+    for number in near {
+        let at = *number as usize;
+        add_made(&mut makers, made, rules[at].outputs.as_slice(), at)?;
     }
     Ok(makers)
 }
@@ -108,14 +125,20 @@ fn is_new(makers: &Makers, made: &BTreeSet<Path>, path: &Path) -> bool
     made.contains(path) && !makers.contains_key(path)
 }
 
-/// For each rule, the rules that declare what it makes by a map.
-fn readers_by(alloc: Global, rules: &[Rule], makers: &Makers) -> Result<Vec<Places>, AllocError>
-    requires { (path : Names) (at : ℕ) → get by_names makers.now path ≡ Some at
+/// For each rule, the rules that declare what it makes by a map, which are all among those with these numbers.
+fn readers_by(
+    alloc: Global,
+    rules: &[Rule],
+    near: &[u32],
+    makers: &Makers,
+) -> Result<Vec<Places>, AllocError>
+    requires near { AreNamersOf rules.now (HasMaker makers.now) near.now }
+    requires below { (path : Names) (at : ℕ) → get by_names makers.now path ≡ Some at
         → at < length rules.now }
     ensures { IfOk result (λ lists. AreListed rules.now makers.now (length rules.now) lists.items) }
 {
     let mut lists = no_readers(alloc, rules.len())?;
-    note_rules(alloc, rules, makers, &mut lists)?;
+    note_rules(alloc, rules, near, makers, &mut lists)?;
     Ok(lists)
 }
 
@@ -130,20 +153,23 @@ fn no_readers(alloc: Global, count: usize) -> Result<Vec<Places>, AllocError>
     Ok(lists)
 }
 
-/// Notes each rule with those that make by a map what it declares.
+/// Notes each rule with those that make by a map what it declares; rules beyond these numbers declare nothing of it.
 fn note_rules(
     alloc: Global,
     rules: &[Rule],
+    near: &[u32],
     makers: &Makers,
     lists: &mut [Places],
 ) -> Result<(), AllocError>
+    requires near { AreNamersOf rules.now (HasMaker makers.now) near.now }
     requires below { (path : Names) (at : ℕ) → get by_names makers.now path ≡ Some at
         → at < length lists.old }
     requires none { AreListed rules.now makers.now 0 lists.old }
     ensures { OnOk result (AreListed rules.now makers.now (length rules.now) lists.new) }
 {
-    for (at, rule) in rules.iter().enumerate() {
-        note_rule(alloc, makers, rule, at, lists)?;
+    for number in near {
+        let at = *number as usize;
+        note_rule(alloc, makers, &rules[at], at, lists)?;
     }
     Ok(())
 }

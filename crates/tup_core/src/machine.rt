@@ -8,7 +8,7 @@ ghost use Rattle.tup_access.specs.Inputs.{AreInputs};
 ghost use Rattle.tup_access.specs.declared.inputs.Inputs.{Inputs as InputsValue};
 ghost use Rattle.tup_core.specs.Step as specs;
 ghost use Rattle.tup_core.specs.Step.{IsReady, opening, CanAsk, CanDeny, CanFinish};
-ghost use Rattle.tup_core.specs.Sound.{IsInRange};
+ghost use Rattle.tup_core.specs.Sound.{HasNear, IsInRange};
 ghost use Rattle.tup_core.specs.Waiting.{flag, CanRelease};
 ghost use Rattle.tup_core.specs.Ending.{IsUnrefused};
 ghost use Rattle.tup_core.specs.Files.{IsSeenAt};
@@ -57,7 +57,8 @@ impl Core {
     /// bad or stopped. It takes the memory for all that comes, the asks of commands and the texts of bad verdicts
     /// aside, and none for the files: they stay with the caller. It is refused for want of memory alone.
     pub fn new(alloc: Global, plan: &Plan, files: &ByPath<Stamp>) -> Result<Core, CoreFault>
-        requires { IsInRange plan.now }
+        requires range { IsInRange plan.now }
+        requires near { HasNear plan.now }
         ensures core { IfOk result (IsCore plan.now) }
         ensures first { IfOk result (λ core. core.files.first.value ≡ files.now) }
         ensures state { IfOk result (λ core. state_of core
@@ -69,7 +70,13 @@ impl Core {
         Ok(Core {
             generated: Outputs::of(plan),
             inputs: inputs_of_all(alloc, rules, &pending)?,
-            waiting: Waiting::new(alloc, rules, plan.reach.as_slice(), &pending)?,
+            waiting: Waiting::new(
+                alloc,
+                rules,
+                plan.reach.as_slice(),
+                plan.near.as_slice(),
+                &pending,
+            )?,
             files: FileStamps::new(alloc, files, plan)?,
             pending,
             claimed: lowered(alloc, rules.len())?,
@@ -135,7 +142,7 @@ impl Core {
         }
     }
 
-    /// A command asks once more: whoever is asked often makes the set of all outputs, if there is memory.
+    /// Counts one more ask of a command.
     fn note_ask(&mut self, alloc: Global, plan: &Plan)
         ensures core { IsCore plan.now self.old → IsCore plan.now self.new }
         ensures rest { self.new ≡ record self.old { generated = self.new.generated } }

@@ -15,7 +15,7 @@ use tup_clean::generated;
 use tup_path::{Path, Text};
 use tup_rule::Rule;
 
-/// So many asks are few: all rules are looked through for each.
+/// From so many asks on, the set of all outputs is made.
 const FEW: usize = 16;
 
 /// The outputs of all rules. Where rules are many, the set of their outputs takes longer than the update of a few. So it is
@@ -23,7 +23,7 @@ const FEW: usize = 16;
 #[derive(Drop)]
 pub(crate) struct Outputs {
     set: Option<BTreeSet<Path>>,
-    /// How many asks there were, and will be: one of each rule that is to be run. Those past the few aren't counted.
+    /// The asks that came, and one for each rule to be run, as it will ask something. From `FEW` on they aren't counted.
     asks: usize,
 }
 
@@ -38,8 +38,8 @@ impl Outputs {
         }
     }
 
-    /// Counts one more ask, and makes the set of the outputs of these rules where it isn't one of the few. For want of memory
-    /// that is left to the next ask.
+    /// Counts one more ask. If there were few before it, that is all; else the set of the outputs of these rules is made. Where
+    /// memory is wanting the next ask tries again.
     pub(crate) fn note_ask(&mut self, alloc: Global, rules: &[Rule])
         ensures { AreOutputs rules.now self.old → AreOutputs rules.now self.new }
     {

@@ -11,6 +11,8 @@ pub struct Plan {
     pub rules: Shared<Rule>,
     /// The places of the rules to be run, ascending.
     pub reach: Numbers,
+    /// Places of rules, ascending. All rules that declare or make an output of a rule to be run are among them.
+    pub near: Numbers,
     /// Whether the others go on where one ends badly.
     pub keep_going: bool,
 }

@@ -3,6 +3,7 @@ ghost use Rattle.std.specs.Prelude.{◌≡◌, ◌==◌, ◌+◌, ◌^◌, ◌�
 ghost use Rattle.tup_clean.specs.Queue.{count_of};
 ghost use Rattle.tup_core.specs.Walk.{Raises, readers_if};
 ghost use Rattle.tup_core.specs.Links.{IsReachOf};
+ghost use Rattle.tup_core.specs.Sound.{AreNamersOf, IsMadeBy};
 ghost use Rattle.tup_core.specs.Waiting as specs;
 ghost use Rattle.tup_core.specs.Waiting.{number, flag, taken, IsWaiting, AreWithin, AreDown, AreInner, AreEntries, AreAllWaiters, AreCounts, IsShort, Releases, CanRelease};
 
@@ -30,18 +31,21 @@ pub(crate) struct Waiting {
 }
 
 impl Waiting {
-    /// What rules wait for where these are pending, whose numbers stand in a list too.
+    /// What rules wait for where these are pending, whose numbers stand in a list too, and those of the rules that declare or
+    /// make what they make in another.
     pub(crate) fn new(
         alloc: Global,
         rules: &[Rule],
         reach: &[u32],
+        near: &[u32],
         pending: &[bool],
     ) -> Result<Waiting, AllocError>
         requires reach { IsReachOf rules.now pending.now reach.now }
+        requires near { AreNamersOf rules.now (IsMadeBy rules.now reach.now) near.now }
         requires pending { length pending.now ≡ length rules.now }
         ensures { IfOk result (IsWaiting rules.now (flag pending.now) pending.now) }
     {
-        let listed = links(alloc, rules, reach, pending)?;
+        let listed = links(alloc, rules, reach, near, pending)?;
         let entries = entries(alloc, &listed, pending)?;
         let waiters = all_waiters(alloc, &listed, pending, &entries)?;
         let waits = counted(alloc, &waiters)?;

@@ -3,9 +3,10 @@ use crate::answer::show_events;
 use crate::desk::Desk;
 use crate::opening::{by_path, reach_at};
 use crate::orders::obey;
+use crate::plan::planned;
 use std::alloc::Global;
-use tup_core::{Plan, Stamps};
-use tup_path::{Items, Shared};
+use tup_core::Stamps;
+use tup_path::Items;
 use tup_rows::{Answers, RowFault, Words};
 use tup_rule::{Rule, Rules};
 use tup_stamp::stamp_of;
@@ -67,11 +68,7 @@ impl Courses {
     /// A course of the plan that a row gives.
     fn opened(&self, alloc: Global, said: &Words) -> Result<Desk, RowFault> {
         let keep_going = said.word_at(1) == b"keep".as_slice();
-        let plan = Plan {
-            rules: Shared::new(self.rules.clone()?)?,
-            reach: reach_at(alloc, said, 0),
-            keep_going,
-        };
+        let plan = planned(alloc, &self.rules, reach_at(alloc, said, 0), keep_going)?;
         Desk::new(alloc, plan, by_path(alloc, self.files.clone()?)?)
     }
 

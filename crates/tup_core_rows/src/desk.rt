@@ -4,11 +4,11 @@ ghost use Rattle.std.specs.FinMap as finite;
 ghost use Rattle.std.specs.Option.{option_copied};
 ghost use Rattle.tup_rule.specs.declared.rule.Rule.{Rule as RuleValue};
 ghost use Rattle.tup_core.specs.declared.running.Running.{Running as RunningValue};
+ghost use Rattle.tup_core.specs.Sound.{HasNear, IsInRange};
 ghost use Rattle.tup_core.specs.Step.{told};
 ghost use Rattle.tup_schedule.specs.Course.{now, WasDenied, EndsWithFinish};
 ghost use Rattle.tup_core_rows.specs.Desk.{IsFree, RunsPlanned, Goes, MayBeTold, MayBeDenied, names_in};
 
-use crate::opening::is_in_range;
 use std::alloc::{AllocError, Global};
 use tup_access::{Access, Verdict};
 use tup_core::{Cause, CoreEvent, Plan, Running, Stamps};
@@ -41,11 +41,11 @@ pub(crate) struct Desk {
 }
 
 impl Desk {
-    /// A course of a plan over files with these stamps. `OtherKind` where a number of the reach is none of a rule.
-    pub(crate) fn new(alloc: Global, plan: Plan, files: ByPath<Stamp>) -> Result<Desk, RowFault> {
-        if !is_in_range(&plan) {
-            return Err(RowFault::OtherKind);
-        }
+    /// A course of a plan over files with these stamps.
+    pub(crate) fn new(alloc: Global, plan: Plan, files: ByPath<Stamp>) -> Result<Desk, RowFault>
+        requires range { IsInRange plan }
+        requires near { HasNear plan }
+    {
         match Course::new(alloc, &plan, &files) {
             Ok(course) => Ok(Desk {
                 plan,

@@ -1,9 +1,9 @@
 //! A core with its plan, and the files of its opening.
 ghost use Rattle.std.specs.Prelude.{◌≡◌, ◌<◌, None, IfOk, length};
 ghost use Rattle.tup_core.specs.Machine.{IsSeenFor};
+ghost use Rattle.tup_core.specs.Sound.{HasNear, IsInRange};
 ghost use Rattle.tup_core_rows.specs.Machine.{IsOfPlan, IsToldTo, IsToldOf, stamp_granted, stamp_told};
 
-use crate::opening::is_in_range;
 use std::alloc::Global;
 use tup_access::Access;
 use tup_core::{Core, CoreEvent, CoreFault, Plan, Running};
@@ -21,14 +21,12 @@ pub(crate) struct Machine {
 }
 
 impl Machine {
-    /// The opening of a plan over files with these stamps. `OtherKind` where a number of the reach
-    /// is none of a rule.
+    /// The opening of a plan over files with these stamps.
     pub(crate) fn new(alloc: Global, plan: Plan, files: ByPath<Stamp>) -> Result<Machine, RowFault>
+        requires range { IsInRange plan }
+        requires near { HasNear plan }
         ensures { IfOk result IsOfPlan }
     {
-        if !is_in_range(&plan) {
-            return Err(RowFault::OtherKind);
-        }
         match Core::new(alloc, &plan, &files) {
             Ok(core) => Ok(Machine { plan, files, core }),
             Err(_) => Err(RowFault::Memory),

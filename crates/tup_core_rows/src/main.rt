@@ -20,6 +20,7 @@ mod made;
 mod mini;
 mod opening;
 mod orders;
+mod plan;
 mod rows;
 mod run;
 mod sources;

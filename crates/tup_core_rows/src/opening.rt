@@ -1,13 +1,13 @@
 //! Where the machine of an update begins.
-ghost use Rattle.std.specs.Prelude.{◌≡◌, true, IfOk};
-ghost use Rattle.tup_core.specs.Sound.{IsInRange};
+ghost use Rattle.std.specs.Prelude.{IfOk};
 ghost use Rattle.tup_core_rows.specs.Machine.{IsOfPlan};
 
 use crate::machine::Machine;
+use crate::plan::planned;
 use std::alloc::{AllocError, Global};
-use tup_core::{Numbers, Plan, Stamps};
+use tup_core::{Numbers, Stamps};
 use tup_given::Project;
-use tup_path::{ByPath, Files, Items, Shared};
+use tup_path::{ByPath, Files, Items};
 use tup_rows::{RowFault, Words};
 use tup_stamp::{Stamp, stamp_of};
 
@@ -22,24 +22,8 @@ pub(crate) fn opening(
     ensures { IfOk result IsOfPlan }
 {
     let files = by_path(alloc, stamps_of(alloc, &project.sources)?)?;
-    let plan = Plan {
-        rules: Shared::new(project.rules.clone()?)?,
-        reach,
-        keep_going,
-    };
+    let plan = planned(alloc, &project.rules, reach, keep_going)?;
     Machine::new(alloc, plan, files)
-}
-
-/// Whether the numbers of the reach are places of rules.
-pub(crate) fn is_in_range(plan: &Plan) -> bool
-    ensures { result ≡ true → IsInRange plan.now }
-{
-    for number in plan.reach.as_slice() {
-        if *number as usize >= plan.rules.len() {
-            return false;
-        }
-    }
-    true
 }
 
 /// Files with their stamps.

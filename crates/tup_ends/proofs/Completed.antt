@@ -49,7 +49,7 @@ module _ (next : Next) (known : List Content) (h : GraphState) (tree : Tree) (ke
 
   -- a plan that runs nothing
   abbrev idle : Plan
-  idle = record { rules = h.rules; reach = []; keep_going = false }
+  idle = record { rules = h.rules; reach = []; near = []; keep_going = false }
 
   abbrev files : List (Names × Stamp)
   files = finite.entries h.seen

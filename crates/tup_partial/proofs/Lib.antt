@@ -1,3 +1,4 @@
 mod Flags
-mod Flagged
+mod Naming
+mod Places
 mod Reach

@@ -7,7 +7,7 @@ use Rattle.std.proofs.lemmas.Option.{slice_get-get_or}
 use Rattle.tup_path.specs.Name.{Content}
 use Rattle.tup_rule.specs.declared.rule.Rule.{Rule}
 use Rattle.tup_runner.specs.Next.{Next}
-use Rattle.tup_graph.specs.Above.{AboveOver, IsAbove}
+use Rattle.tup_graph.specs.Above.{AboveOver}
 use Rattle.tup_graph.specs.Graph.{GraphState, is_rule, is_flagged}
 use Rattle.tup_graph.specs.Kept.{IsKept}
 use Rattle.tup_graph.specs.Records.{Language}

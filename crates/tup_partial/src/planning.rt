@@ -3,21 +3,23 @@ ghost use Rattle.std.specs.Prelude.{◌≡◌, ◌↔◌, ℕ, true, Contains, I
 ghost use Rattle.std.specs.List.Sorted.{IsStrictlySortedBy};
 ghost use Rattle.std.specs.Ordering.{nat_cmp};
 ghost use Rattle.tup_graph.specs.Graph.{is_flagged};
-ghost use Rattle.tup_core.specs.Sound.{IsInRange};
+ghost use Rattle.tup_core.specs.Sound.{HasNear, IsInRange};
 ghost use Rattle.tup_closure.specs.Readers.{AreRunsOfRules};
 ghost use Rattle.tup_closure.specs.Steps.{HasStepped, HasSteppedAtMost};
 ghost use Rattle.tup_partial.specs.Plan.{AreFlagsOfRules, IsFlagged, IsToRun};
 
 use crate::fault::PartialFault;
+use crate::near::near_rules;
 use std::alloc::Global;
 use std::sync::ledger::Ledger;
-use tup_closure::{Steps, above, rule_count};
+use tup_closure::{Steps, above};
 use tup_core::{Numbers, Plan};
 use tup_graph::Nodes;
 use tup_readers::Indexed;
 
 /// The plan of an update: the rules of the graph in their order, and of these the flagged ones and all above them are to be
-/// run. It takes the steps of `above` from the flagged rules; after a refusal it has taken no more.
+/// run; near these are the rules that declare or make what they make. It takes the steps of `above` from the flagged rules;
+/// after a refusal it has taken no more.
 pub fn plan_of<L: Ledger>(
     alloc: Global,
     graph: &Indexed,
@@ -33,6 +35,7 @@ pub fn plan_of<L: Ledger>(
         → Contains plan.reach number ↔ IsToRun graph.now number) }
     ensures ascending { IfOk result (λ plan. IsStrictlySortedBy nat_cmp plan.reach) }
     ensures range { IfOk result IsInRange }
+    ensures near { IfOk result HasNear }
     ensures keep_going { IfOk result (λ plan. plan.keep_going ≡ keep_going) }
     ensures steps { OnOk result
         (HasStepped graph.now (IsFlagged graph.now) steps.old steps.new) }
@@ -41,10 +44,12 @@ pub fn plan_of<L: Ledger>(
     ensures memory { IfErr result (λ fault. fault ≡ PartialFault.Memory) }
 {
     let reach = reach(alloc, graph, steps)?;
+    let near = near_rules(alloc, graph, reach.as_slice())?;
     let rules = graph.nodes().shared_rules()?;
     Ok(Plan {
         rules,
         reach,
+        near,
         keep_going,
     })
 }
@@ -73,16 +78,13 @@ fn reach<L: Ledger>(
 
 /// The flagged rules.
 fn flagged(alloc: Global, graph: &Nodes) -> Result<Numbers, PartialFault>
-    requires { AreFlagsOfRules graph.now }
     ensures flagged { IfOk result (λ numbers. (number : ℕ)
         → Contains numbers number ↔ (is_flagged graph.now number ≡ true)) }
     ensures memory { IfErr result (λ fault. fault ≡ PartialFault.Memory) }
 {
     let mut numbers = Numbers::new(alloc);
-    for number in 0..rule_count(graph)? {
-        if graph.flagged(number) {
-            numbers.push(number)?;
-        }
+    for (number, _) in graph.flags() {
+        numbers.push(*number)?;
     }
     Ok(numbers)
 }

@@ -5,7 +5,7 @@ ghost use Rattle.std.specs.Option.{option_copied};
 ghost use Rattle.tup_access.specs.Access.{access as access_of};
 ghost use Rattle.tup_access.specs.declared.verdict.Verdict.TheVariants.{Good};
 ghost use Rattle.tup_core.specs.Run.{IsRun};
-ghost use Rattle.tup_core.specs.Sound.{IsInRange};
+ghost use Rattle.tup_core.specs.Sound.{HasNear, IsInRange};
 ghost use Rattle.tup_core.specs.Step.{IsEnabled};
 ghost use Rattle.tup_core.specs.declared.event.CoreEvent.TheVariants.{Claim, Ask, Deny, Finish, Stop};
 ghost use Rattle.tup_core.specs.Machine.{entry};
@@ -72,7 +72,8 @@ impl Course {
 
     /// The opening of a plan over files with these stamps. None of them is copied: they stay with the caller.
     pub fn new(alloc: Global, plan: &Plan, files: &ByPath<Stamp>) -> Result<Course, AllocError>
-        requires { IsInRange plan.now }
+        requires range { IsInRange plan.now }
+        requires near { HasNear plan.now }
         ensures { IfOk result (λ course. course
             ≡ record { plan = plan.now; files = finite.entries files.now; history = [] }) }
     {

@@ -3,7 +3,7 @@ ghost use Rattle.std.specs.Prelude.{◌≡◌, ◌++◌, ◌∷◌, ◌+◌, ◌
 ghost use Rattle.std.specs.FinMap as finite;
 ghost use Rattle.tup_core.specs.Machine as machine;
 ghost use Rattle.tup_core.specs.Machine.{state_of, IsCore, TakesMemory};
-ghost use Rattle.tup_core.specs.Sound.{IsInRange};
+ghost use Rattle.tup_core.specs.Sound.{HasNear, IsInRange};
 ghost use Rattle.tup_core.specs.Step.{IsEnabled, opening, after};
 
 use std::alloc::{AllocError, Global};
@@ -13,7 +13,8 @@ use tup_stamp::Stamp;
 
 /// The core of a plan at its opening, over files with these stamps.
 pub(crate) fn opened(alloc: Global, plan: &Plan, files: &ByPath<Stamp>) -> Result<Core, AllocError>
-    requires { IsInRange plan.now }
+    requires range { IsInRange plan.now }
+    requires near { HasNear plan.now }
     ensures core { IfOk result (IsCore plan.now) }
     ensures first { IfOk result (λ core. core.files.first.value ≡ files.now) }
     ensures state { IfOk result (λ core. state_of core

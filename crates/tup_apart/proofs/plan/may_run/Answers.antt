@@ -16,6 +16,9 @@ returns-then-not-are_flagged c =
           (subst (All (λ (number : ℕ). is_flagged g number ≡ true)) (sym c.as_slice.ensures) (runs_flagged g c.args.plan.now c.requires may)))),
     )
 
+pub are_apart-requires : goal.are_apart-requires
+are_apart-requires c = c.requires.near
+
 pub returns-then-not-branch : goal.returns-then-not-branch
 returns-then-not-branch c = (
   λ (wrong : false ≡ true). absurd (false≢true wrong),

@@ -9,4 +9,5 @@ returns-in-Ok-clause-planned g c = record {
   rules = c.in-Ok.ensures.rules ∙ ap (λ (nodes : GraphState). nodes.rules) c.indexed.ensures.value;
   reach = subst (λ (nodes : GraphState). (number : ℕ) → Contains c.in-Ok.plan.reach number ↔ IsToRun nodes number) c.indexed.ensures.value c.in-Ok.ensures.reach;
   range = c.in-Ok.ensures.range;
+  near = c.in-Ok.ensures.near;
 }

@@ -9,7 +9,7 @@ pub bounds-rules-at : goal.bounds-rules-at
 bounds-rules-at c = next_rule c.args.rules.now c.args.reach.now c.loop-at.at-index c.requires c.loop-at-test.true
 
 pub loop-at-init : goal.loop-at-init
-loop-at-init c = made_none c.args.rules.now c.new-made.result
+loop-at-init c = made_none c.args.rules.now c.new-made.result c.new-made.ensures.empty
 
 pub loop-at-preserved : goal.loop-at-preserved
 loop-at-preserved c =

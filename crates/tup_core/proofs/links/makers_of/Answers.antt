@@ -1,13 +1,36 @@
-use Rattle.std.proofs.Common.{List, subst}
+use Rattle.std.proofs.Common.{◌≡◌, ℕ, List, length, get_or, take, ◌∙◌, sym, subst, arith}
+use Rattle.std.proofs.lemmas.List.{get_or_default, get_or_past, take_all}
 use Rattle.tup_path.specs.Name.{Names}
-use Rattle.tup_core.specs.Links.{AddsMakerIn}
-use Rattle.tup_core.proofs.LinksLaws.{makers_none, makers_more}
+use Rattle.tup_core.specs.Links.{HasMakersIn, AddsMakerIn}
+use Rattle.tup_core.proofs.NearLaws.{begins, goes_on, next_within}
+use Rattle.tup_core.proofs.LinksLaws.{makers_none, makers_more, makers_idle}
 use Rattle.tup_core.proofs.links.makers_of.Goals as goal
 
-pub loop-at-init : goal.loop-at-init
-loop-at-init c = makers_none c.args.made.now c.new-makers.result c.new-makers.ensures.empty
+pub bounds-rules-at : goal.bounds-rules-at
+bounds-rules-at c = next_within c.args.near.now (length c.args.rules.now) c.requires.range c.requires.ascending c.loop-number.number-index c.loop-number-test.true
 
-pub loop-at-preserved : goal.loop-at-preserved
-loop-at-preserved c =
-    makers_more c.args.made.now c.args.rules.now c.loop-at.at c.index-rules-at.result c.loop-at.makers c.add_made.new.makers c.loop-at.invariant c.loop-at-test.true c.index-rules-at.is
-    (subst (λ (outputs : List Names). AddsMakerIn c.args.made.now outputs c.loop-at.at c.loop-at.makers c.add_made.new.makers) c.as_slice.ensures c.in_ok-add_made.ensures)
+pub loop-number-init : goal.loop-number-init
+loop-number-init c =
+    let set = c.args.made.now in
+    let rules = c.args.rules.now in
+    begins c.args.near.now (length rules) c.requires.range c.requires.ascending (λ n. HasMakersIn set (take n rules) c.new-makers.result) (makers_idle set rules c.args.near.now c.new-makers.result c.requires)
+    (makers_none set c.new-makers.result c.new-makers.ensures.empty)
+
+pub loop-number-preserved : goal.loop-number-preserved
+loop-number-preserved c =
+    let set = c.args.made.now in
+    let rules = c.args.rules.now in
+    let near = c.args.near.now in
+    let i = c.loop-number.number-index in
+    let at = get_or near i 0 in
+    let here : get_or near i (length rules) ≡ at = get_or_default near i (length rules) 0 c.loop-number-test.true in
+    goes_on near (length rules) c.requires.range c.requires.ascending (λ n. HasMakersIn set (take n rules) c.add_made.new.makers) (makers_idle set rules near c.add_made.new.makers c.requires) i c.loop-number-test.true
+    (makers_more set rules at c.index-rules-at.result c.loop-number.makers c.add_made.new.makers
+    (subst (λ (n : ℕ). HasMakersIn set (take n rules) c.loop-number.makers) here c.loop-number.invariant) (next_within near (length rules) c.requires.range c.requires.ascending i c.loop-number-test.true) c.index-rules-at.is
+    (subst (λ (outputs : List Names). AddsMakerIn set outputs at c.loop-number.makers c.add_made.new.makers) c.as_slice.ensures c.in_ok-add_made.ensures))
+
+pub returns : goal.returns
+returns c =
+    let rules = c.args.rules.now in
+    let past : get_or c.args.near.now c.loop-number.number-index (length rules) ≡ length rules = get_or_past c.args.near.now c.loop-number.number-index (length rules) (omega arith) in
+    subst (λ (l : List _). HasMakersIn c.args.made.now l c.loop-number.makers) (take_all _ rules (omega (arith, past))) c.loop-number.invariant

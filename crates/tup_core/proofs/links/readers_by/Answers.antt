@@ -6,7 +6,7 @@ use Rattle.tup_core.proofs.links.readers_by.Goals as goal
 
 pub note_rules-requires-clause-below : goal.note_rules-requires-clause-below
 note_rules-requires-clause-below c = λ path at is.
-    let within = c.requires path at is in
+    let within = c.requires.below path at is in
     let long : length c.deref_mut.result.now ≡ length c.args.rules.now = ap length (c.deref_mut.ensures.value ∙ c.in_ok-lists.ensures) ∙ length-replicate (length c.args.rules.now) _ in
     omega (arith, within, long)
 

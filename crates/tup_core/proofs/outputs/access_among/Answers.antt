@@ -1,4 +1,4 @@
-use Rattle.std.proofs.Common.{◌≡◌, List, [], Ok, inr, sym, ap, subst, ◌∙◌}
+use Rattle.std.proofs.Common.{[], Ok, inr, sym, ap, subst, ◌∙◌}
 use Rattle.tup_path.specs.Gives.{GivesUnless}
 use Rattle.tup_access.specs.declared.fault.AccessFault.TheVariants.{Memory}
 use Rattle.tup_access.specs.declared.verdict.Access.{Access}

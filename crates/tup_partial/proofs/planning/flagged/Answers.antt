@@ -1,26 +1,21 @@
-use Rattle.std.proofs.Common.{◌≡◌, ◌↔◌, ℕ, ◌+◌, ◌<◌, true, false, List, length, Contains, sym, subst, ◌∙◌, arith}
-use Rattle.std.proofs.lemmas.Bool.{ltb-true}
-use Rattle.tup_graph.specs.Graph.{is_flagged}
-use Rattle.tup_partial.proofs.Flagged.{one_more, no_more}
+use Rattle.std.proofs.Common.{◌≡◌, ◌↔◌, ℕ, true, List, Contains, map, sym, ap, subst, ◌∙◌}
+use Rattle.std.specs.FinMap as finite
+use Rattle.std.specs.Map.Iter.{deref_pair}
+use Rattle.std.specs.Ordering.{nat_cmp}
+use Rattle.std.proofs.lemmas.Map.Iter.{iter_end}
+use Rattle.tup_graph.specs.Graph.{GraphState, is_flagged}
+use Rattle.tup_closure.proofs.Members.{in_list, listed, number-decides}
 use Rattle.tup_partial.proofs.planning.flagged.Goals as goal
-use Rattle.tup_partial.proofs.planning.flagged.Goals.{then-flagged+in_ok-push, else-flagged}
 
-pub loop-number-preserved : goal.loop-number-preserved
-loop-number-preserved c =
-    let g = c.args.graph.now in
-    let i = c.loop-number.number in
-    let P : ℕ → Type 0 = λ n. is_flagged g n ≡ true in
-    elim c.if-flagged.branch [
-      | then-flagged+in_ok-push w ↦
-          subst (λ (ns : List ℕ). (n : ℕ) → Contains ns n ↔ ((n < i + 1) × (is_flagged g n ≡ true))) (sym (w.numbers-is ∙ w.in_ok-push.ensures.ok))
-          (one_more P c.loop-number.numbers i c.loop-number.invariant (sym c.flagged.ensures ∙ w.if-flagged.true))
-      | else-flagged w ↦
-          subst (λ (ns : List ℕ). (n : ℕ) → Contains ns n ↔ ((n < i + 1) × (is_flagged g n ≡ true))) (sym w.numbers-is)
-          (no_more P c.loop-number.numbers i c.loop-number.invariant (λ is. (let wrong : true ≡ false = sym is ∙ sym c.flagged.ensures ∙ w.if-flagged.false in cc)))
-    ]
+-- the keys of its flags are the numbers of the flagged rules
+are_flagged : (g : GraphState) (numbers : List ℕ) → numbers ≡ finite.keys g.flags → (n : ℕ) → Contains numbers n ↔ (is_flagged g n ≡ true)
+are_flagged g numbers same n = (
+  λ h. finite.contains_key-keys g.flags n ∙ in_list nat_cmp number-decides (finite.keys g.flags) n (subst (λ (l : List ℕ). Contains l n) same h),
+  λ is. subst (λ (l : List ℕ). Contains l n) (sym same) (listed nat_cmp number-decides (finite.keys g.flags) n (sym (finite.contains_key-keys g.flags n) ∙ is)),
+)
 
 pub returns-clause-flagged : goal.returns-clause-flagged
-returns-clause-flagged c = λ n. (
-  λ inside. ((c.loop-number.invariant n).0 inside).1,
-  λ is. (let within : n < length c.args.graph.now.rules = ltb-true n (length c.args.graph.now.rules) (c.requires n is) in (c.loop-number.invariant n).1 (omega (arith, c.in_ok-number-end.ensures.count), is)),
-)
+returns-clause-flagged c =
+    let all = iter_end deref_pair (finite.entries c.args.graph.now.flags) c.loop-number.yielded c.into_iter-number-iterator.result c.loop-number.number-iterator c.next.new.self c.next.result
+    (c.into_iter-number-iterator.ensures.into_iter_gives ∙ c.flags-number-items.ensures) c.loop-number.yielded_by c.in-None.is c.next.ensures.steps in
+    are_flagged c.args.graph.now c.loop-number.numbers (c.loop-number.invariant ∙ ap (map (λ (flag : ℕ × Unit {0}). flag.0)) all.0)

@@ -1,7 +1,7 @@
 use Rattle.std.proofs.Common.{◌≡◌, ◌↔◌, ℕ, true, List, Contains, refl, sym, subst}
 use Rattle.tup_graph.specs.Graph.{GraphState, is_flagged}
 use Rattle.tup_closure.proofs.Stepping.{above_as, at_most_as, if_err, none_stepped, stepped_as}
-use Rattle.tup_partial.specs.Plan.{AreFlagsOfRules, IsFlagged}
+use Rattle.tup_partial.specs.Plan.{IsFlagged}
 use Rattle.tup_partial.proofs.planning.reach.Goals as goal
 
 -- the flagged rules of the same graph
@@ -11,9 +11,6 @@ flagged_of numbers nodes g same flagged = subst (λ (h : GraphState). (n : ℕ) 
 -- and their slice
 sliced : (numbers slice : List ℕ) (g : GraphState) → slice ≡ numbers → ((n : ℕ) → Contains numbers n ↔ IsFlagged g n) → (n : ℕ) → Contains slice n ↔ IsFlagged g n
 sliced numbers slice g same flagged = subst (λ (ns : List ℕ). (n : ℕ) → Contains ns n ↔ IsFlagged g n) (sym same) flagged
-
-pub flagged-requires : goal.flagged-requires
-flagged-requires g c = subst AreFlagsOfRules (sym c.nodes.ensures) c.requires.flags
 
 pub returns-in_err-flagged-clause-fewer : goal.returns-in_err-flagged-clause-fewer
 returns-in_err-flagged-clause-fewer g c =

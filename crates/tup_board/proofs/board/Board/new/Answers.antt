@@ -5,8 +5,11 @@ use Rattle.tup_board.specs.Calls.{opened_as}
 use Rattle.tup_board.specs.Sound.{IsOpening}
 use Rattle.tup_board.proofs.board.Board.new.Goals as goal
 
-pub opened-requires : goal.opened-requires
-opened-requires g c = c.requires.plan.in_range
+pub opened-requires-clause-range : goal.opened-requires-clause-range
+opened-requires-clause-range g c = c.requires.plan.in_range
+
+pub opened-requires-clause-near : goal.opened-requires-clause-near
+opened-requires-clause-near g c = c.requires.plan.near
 
 pub of-requires-clause-opening : goal.of-requires-clause-opening
 of-requires-clause-opening g c =

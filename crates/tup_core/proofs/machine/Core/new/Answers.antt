@@ -13,7 +13,7 @@ pub new-requires-clause-reach : goal.new-requires-clause-reach
 new-requires-clause-reach c =
     subst (λ (r : List Rule). IsReachOf r c.deref-2.result.now c.as_slice.result.now) (sym c.as_slice-rules.ensures)
     (subst (λ (l : List Bool). IsReachOf c.args.plan.now.rules l c.as_slice.result.now) (sym c.deref-2.ensures.value)
-    (subst (IsReachOf c.args.plan.now.rules c.in_ok-pending.pending.items) (sym c.as_slice.ensures) (reach_of c.args.plan.now c.in_ok-pending.pending.items c.requires c.in_ok-pending.ensures.flags)))
+    (subst (IsReachOf c.args.plan.now.rules c.in_ok-pending.pending.items) (sym c.as_slice.ensures) (reach_of c.args.plan.now c.in_ok-pending.pending.items c.requires.range c.in_ok-pending.ensures.flags)))
 
 made : (c : goal.In_ok-nothing-2) → IsOpening c.args.plan.now (finite.entries c.args.files.now) (record {
   generated = c.of.result;
