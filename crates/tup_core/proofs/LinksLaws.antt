@@ -22,7 +22,7 @@ use Rattle.tup_rule.proofs.Laws.{maker-Some}
 use Rattle.tup_clean.specs.Queue.{count_of, AreBelow, IsNoted}
 use Rattle.tup_clean.proofs.Counting.{count_of-take}
 use Rattle.tup_clean.proofs.Places.{some_place}
-use Rattle.tup_core.specs.Sound.{AreNamersOf, IsMadeBy}
+use Rattle.tup_core.specs.Sound.{AreNamersOf}
 use Rattle.tup_core.specs.Links.{is_one_of, HasMaker, IsIn, AreRules, IsReachOf, AreNear, AreListed, AreMade, AreUp, HasMakersIn, AddsMakerIn}
 use Rattle.tup_core.specs.Waiting.{flag, times}
 use Rattle.tup_core.proofs.FilesLaws.{same_key}

@@ -9,7 +9,7 @@ use Rattle.tup_path.specs.Order.{by_names}
 use Rattle.tup_rule.specs.declared.rule.Rule.{Rule}
 use Rattle.tup_rule.specs.Makers.{MakerMap, producers_in}
 use Rattle.tup_rule.specs.Producer.{MakesFor}
-use Rattle.tup_rule.specs.Rule.{among, maker, writes}
+use Rattle.tup_rule.specs.Rule.{among, maker}
 use Rattle.tup_clean.specs.Queue.{count_of}
 use Rattle.tup_core.specs.Sound.{IsMadeBy}
 use Rattle.tup_core.specs.Waiting.{flag, times}

@@ -76,11 +76,6 @@ IsSeenFor plan core (Ask seat text answer) seen =
     → writes rule path ≡ false → IsSeenAt core.files path seen
 IsSeenFor plan core event seen = Unit {0}
 
--- what a command is answered by an event that is an ask
-abbrev pub answered : CoreEvent → Option Stamp
-answered (Ask seat text answer) = answer
-answered event = None
-
 -- how a core answers an event, and what it is then
 pub record Answers {T : Type 0} (plan : Plan) (old : Core) (event : CoreEvent) (result : Result T CoreFault) (new : Core) : Type 0 where
   pub core : IsCore plan new

@@ -7,7 +7,7 @@ ghost use Rattle.tup_access.specs.Access.{access as access_of};
 ghost use Rattle.tup_access.specs.Inputs.{AreInputs};
 ghost use Rattle.tup_access.specs.declared.inputs.Inputs.{Inputs as InputsValue};
 ghost use Rattle.tup_core.specs.Step as specs;
-ghost use Rattle.tup_core.specs.Step.{IsReady, opening, CanAsk, CanDeny, CanFinish};
+ghost use Rattle.tup_core.specs.Step.{IsEnabled, IsReady, opening, CanAsk, CanDeny, CanFinish};
 ghost use Rattle.tup_core.specs.Sound.{HasNear, IsInRange};
 ghost use Rattle.tup_core.specs.Waiting.{flag, CanRelease};
 ghost use Rattle.tup_core.specs.Ending.{IsUnrefused};
@@ -142,6 +142,19 @@ impl Core {
         }
     }
 
+    /// Takes an event that is enabled, so that an ask isn't judged here. It answers `Memory` where `step` may.
+    pub fn take(&mut self, alloc: Global, plan: &Plan, event: &CoreEvent) -> Result<(), CoreFault>
+        requires core { IsCore plan.now self.old }
+        requires enabled { IsEnabled plan.now (state_of self.old) event.now }
+        ensures { Answers plan.now self.old event.now result self.new }
+    {
+        if let CoreEvent::Ask { seat, text, answer } = event {
+            self.note_ask(alloc, plan);
+            return self.take_ask(plan, *seat, text, *answer);
+        }
+        self.step(alloc, plan, event, None)
+    }
+
     /// Counts one more ask of a command.
     fn note_ask(&mut self, alloc: Global, plan: &Plan)
         ensures core { IsCore plan.now self.old → IsCore plan.now self.new }
@@ -185,6 +198,21 @@ impl Core {
         if !self.may_ask(alloc, plan, seat, text, answer, seen)? {
             return Err(CoreFault::NotEnabled);
         }
+        self.take_ask(plan, seat, text, answer)
+    }
+
+    /// A seat's command asks for a text, as it may, and is told this.
+    fn take_ask(
+        &mut self,
+        plan: &Plan,
+        seat: u32,
+        text: &Text,
+        answer: Option<Stamp>,
+    ) -> Result<(), CoreFault>
+        requires core { IsCore plan.now self.old }
+        requires may { CanAsk plan.now (state_of self.old) seat text.now answer }
+        ensures { Answers plan.now self.old (CoreEvent.Ask seat text.now answer) result self.new }
+    {
         ask_at(&mut self.seats, seat as usize, text, answer)?;
         Ok(())
     }

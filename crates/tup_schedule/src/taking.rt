@@ -1,7 +1,6 @@
 //! How a core and its history take events.
 ghost use Rattle.std.specs.Prelude.{◌≡◌, ◌++◌, ◌∷◌, ◌+◌, ◌^◌, ◌<◌, ◌≤◌, [], IfOk, OnOk, OnErr, length, vec_len, vec_capacity};
 ghost use Rattle.std.specs.FinMap as finite;
-ghost use Rattle.tup_core.specs.Machine as machine;
 ghost use Rattle.tup_core.specs.Machine.{state_of, IsCore, TakesMemory};
 ghost use Rattle.tup_core.specs.Sound.{HasNear, IsInRange};
 ghost use Rattle.tup_core.specs.Step.{IsEnabled, opening, after};
@@ -44,7 +43,7 @@ pub(crate) fn take(
     ensures history { history.new.items ≡ history.old.items ++ event ∷ [] }
     ensures capacity { vec_capacity history.old ≤ vec_capacity history.new }
 {
-    let _ = core.step(alloc, plan, &event, answered(&event));
+    let _ = core.take(alloc, plan, &event);
     let _ = history.push(event);
 }
 
@@ -70,21 +69,11 @@ pub(crate) fn try_take(
     ensures no_less { vec_capacity history.old ≤ vec_capacity history.new }
 {
     history.reserve(more + 1)?;
-    match core.step(alloc, plan, &event, answered(&event)) {
+    match core.take(alloc, plan, &event) {
         Ok(()) => {
             let _ = history.push(event);
             Ok(())
         }
         Err(_) => Err(AllocError),
-    }
-}
-
-/// What a command is answered by an event that is an ask.
-fn answered(event: &CoreEvent) -> Option<Stamp>
-    ensures { result ≡ machine.answered event.now }
-{
-    match event {
-        CoreEvent::Ask { answer, .. } => *answer,
-        _ => None,
     }
 }

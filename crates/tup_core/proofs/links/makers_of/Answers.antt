@@ -1,6 +1,7 @@
-use Rattle.std.proofs.Common.{◌≡◌, ℕ, List, length, get_or, take, ◌∙◌, sym, subst, arith}
+use Rattle.std.proofs.Common.{◌≡◌, ℕ, List, length, get_or, take, sym, ap, ◌∙◌, subst, arith}
 use Rattle.std.proofs.lemmas.List.{get_or_default, get_or_past, take_all}
 use Rattle.tup_path.specs.Name.{Names}
+use Rattle.tup_rule.specs.declared.rule.Rule.{Rule}
 use Rattle.tup_core.specs.Links.{HasMakersIn, AddsMakerIn}
 use Rattle.tup_core.proofs.NearLaws.{begins, goes_on, next_within}
 use Rattle.tup_core.proofs.LinksLaws.{makers_none, makers_more, makers_idle}
@@ -27,10 +28,10 @@ loop-number-preserved c =
     goes_on near (length rules) c.requires.range c.requires.ascending (λ n. HasMakersIn set (take n rules) c.add_made.new.makers) (makers_idle set rules near c.add_made.new.makers c.requires) i c.loop-number-test.true
     (makers_more set rules at c.index-rules-at.result c.loop-number.makers c.add_made.new.makers
     (subst (λ (n : ℕ). HasMakersIn set (take n rules) c.loop-number.makers) here c.loop-number.invariant) (next_within near (length rules) c.requires.range c.requires.ascending i c.loop-number-test.true) c.index-rules-at.is
-    (subst (λ (outputs : List Names). AddsMakerIn set outputs at c.loop-number.makers c.add_made.new.makers) c.as_slice.ensures c.in_ok-add_made.ensures))
+    (subst (λ (outputs : List Names). AddsMakerIn set outputs at c.loop-number.makers c.add_made.new.makers) (c.as_slice.ensures ∙ ap (λ (r : Rule). r.outputs) (sym c.index-rules-at.is)) c.in_ok-add_made.ensures))
 
 pub returns : goal.returns
 returns c =
     let rules = c.args.rules.now in
     let past : get_or c.args.near.now c.loop-number.number-index (length rules) ≡ length rules = get_or_past c.args.near.now c.loop-number.number-index (length rules) (omega arith) in
-    subst (λ (l : List _). HasMakersIn c.args.made.now l c.loop-number.makers) (take_all _ rules (omega (arith, past))) c.loop-number.invariant
+    subst (λ (l : List Rule). HasMakersIn c.args.made.now l c.loop-number.makers) (take_all _ rules (omega (arith, past))) c.loop-number.invariant
