@@ -21,6 +21,7 @@ use Rattle.tup_core.specs.declared.event.Cause.{Cause}
 use Rattle.tup_core.specs.declared.event.Cause.TheVariants as cause_by
 use Rattle.tup_core.specs.declared.event.CoreEvent.{CoreEvent}
 use Rattle.tup_core.specs.declared.event.CoreEvent.TheVariants.{Finish, Stop}
+use Rattle.tup_core.specs.declared.plan.Plan.{Plan}
 use Rattle.tup_core.specs.declared.running.Running.{Running}
 use Rattle.tup_core.specs.Step.{CanAsk, IsEnabled}
 use Rattle.tup_schedule.specs.Course.{CourseState, GoesOn, RunsRule, WasDenied, now, with_events}
@@ -37,7 +38,7 @@ use Rattle.tup_board.specs.Cause.{stops_by}
 use Rattle.tup_board.specs.Seen.{HasFiles}
 use Rattle.tup_board.specs.Sound.{IsSound, IsTrueFault}
 use Rattle.tup_board.proofs.Asking.{failed_asks, read_asks, same_rule_at, same_running}
-use Rattle.tup_board.proofs.Kept.{KeepsBoard, board_at, course_is, to_course, sound_seen, kept_more, refused_kept, site_true, large_true, full_true}
+use Rattle.tup_board.proofs.Kept.{KeepsBoard, board_at, plan_here, course_is, to_course, sound_seen, kept_more, refused_kept, site_true, large_true, full_true}
 use Rattle.tup_board.specs.Seat.{is_granted}
 use Rattle.tup_board.proofs.Seated.{runs_at}
 use Rattle.tup_board.proofs.Stamps.{end_leaves}
@@ -157,6 +158,12 @@ module _ {S R : Type 0} (site : Site S) (runner : Runner R) (course : CourseStat
 
   pub runs_here : (seat : ℕ) → RunsRule (course_of given) seat → RunsRule course seat
   runs_here seat it = to_course site runner course first_graph graph first_site s lost given files sound view (λ c. RunsRule c seat) it
+
+  -- the rules of a graph that no commit lost are those of the plan
+  pub rules_here : lost ≡ None → (plan : Plan) → plan ≡ plan_of given → graph.nodes.rules ≡ plan.rules
+  rules_here none plan is =
+      (sound.present none).come.beside.rules ∙ sym sound.opening.plan.rules
+      ∙ sym (ap (λ (p : Plan). p.rules) (plan_here site runner course first_graph graph first_site s lost given files sound view plan is))
 
   -- what it may ask
   pub access_seen : (seat : ℕ) (rules : List Rule) (text : List ℕ) (found : Access) → ((it : RunsRule course seat) → found ≡ access rules it.rule (length it.running.asks) text)

@@ -14,6 +14,7 @@ pub mod Keeping
 pub mod Finishing
 pub mod Imaging
 pub mod Answering
+mod Granting
 pub mod Judging
 pub mod Known
 pub mod Named

@@ -198,7 +198,7 @@ impl<S: Site, R: Runner> Desk for Board<S, R> {
         seat: u32,
         text: &Text,
     ) -> Result<Asked, BoardFault> {
-        match self.course.access(alloc, plan, seat, text)? {
+        match self.access(alloc, plan, seat, text)? {
             Access::Yes(path) => self.answer(alloc, plan, seat, text, &path),
             Access::No(verdict) => self.deny(alloc, plan, seat, text, verdict),
         }

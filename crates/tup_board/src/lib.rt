@@ -9,6 +9,7 @@
 //! `specs/Images.antt`).
 #![tactic(auto)]
 
+mod access;
 mod answers;
 mod ask;
 mod board;

@@ -22,7 +22,7 @@ mod FilesLaws
 pub mod Entries
 pub mod SeenLaws
 mod MachineLaws
-mod AskLaws
+pub mod AskLaws
 mod StepLaws
 mod SameLaws
 pub mod ReadingLaws
