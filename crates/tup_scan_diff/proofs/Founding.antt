@@ -12,6 +12,7 @@ use Rattle.tup_graph.specs.Answers.{IsSource, tup_config}
 use Rattle.tup_graph.specs.Graph.{source}
 use Rattle.tup_scan_diff.specs.Index.{IsIndexOf, IsSourceAmong}
 use Rattle.tup_scan_diff.specs.Made.{AreMade}
+use Rattle.tup_scan_diff.specs.Parents.{AreParents}
 use Rattle.tup_scan_diff.specs.Present.{seeing, graph_of, stamps_in, IsPresent}
 use Rattle.tup_scan_diff.specs.Settings.{AreSettings}
 use Rattle.tup_scan_diff.specs.declared.present.Present.{Present}
@@ -23,9 +24,10 @@ config_path_is path (inl e) = absurd (cc)
 config_path_is path (inr e) = let same : Ok path ≡ Ok tup_config = e in cc
 
 pub present_is : (present : Present) (files : List (Names × Stamp)) (config : Option Content) (stamp : Option Stamp) → stamps_in present ≡ finite.from_entries files
-    → IsIndexOf (IsSourceAmong present.nodes.now files) present.index → AreMade present.nodes.now.readings present.made → stamp ≡ source (graph_of present) tup_config → AreSettings config stamp present.settings → IsPresent config present
-present_is present files config stamp stamps index made seen settings = record {
+    → IsIndexOf (IsSourceAmong present.nodes.now files) present.index → AreParents present.index.folders.keys present.parents → AreMade present.nodes.now.readings present.made → stamp ≡ source (graph_of present) tup_config → AreSettings config stamp present.settings → IsPresent config present
+present_is present files config stamp stamps index parents made seen settings = record {
   index = subst (λ (m : finite.FinMap by_names Stamp). IsIndexOf (IsSource (source (seeing present.nodes.now m))) present.index) (sym stamps) (index_of_sources present.nodes.now files present.index index);
+  parents = parents;
   made = made;
   settings = subst (λ (s : Option Stamp). AreSettings config s present.settings) seen settings;
 }

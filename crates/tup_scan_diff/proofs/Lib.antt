@@ -8,6 +8,7 @@ pub mod Beside
 pub mod Staled
 pub mod Editing
 pub mod Making
+pub mod Parented
 pub mod Noting
 pub mod Rooted
 pub mod Looking

@@ -17,7 +17,7 @@ last_item (x ∷ xs) = elim (last_item xs) [
   | inr some ↦ inr (x ∷ some.0, some.1, ap (λ l. x ∷ l) some.2)
 ]
 
-not_nothing : {A : Type 0} (front : List A) (last : A) → front ++ last ∷ [] ≡ [] → ⊥
+pub not_nothing : {A : Type 0} (front : List A) (last : A) → front ++ last ∷ [] ≡ [] → ⊥
 not_nothing [] last e = cc
 not_nothing (x ∷ front) last e = cc
 

@@ -8,6 +8,7 @@ use Rattle.tup_graph.specs.Answers.{IsSource, tup_config}
 use Rattle.tup_graph.specs.Graph.{GraphState, source}
 use Rattle.tup_scan_diff.specs.Index.{IsIndexOf}
 use Rattle.tup_scan_diff.specs.Made.{AreMade}
+use Rattle.tup_scan_diff.specs.Parents.{AreParents}
 use Rattle.tup_scan_diff.specs.Settings.{AreSettings}
 use Rattle.tup_scan_diff.specs.declared.present.Present.{Present}
 use Rattle.tup_scan_diff.specs.declared.stamps.Stamps.{Stamps}
@@ -39,9 +40,11 @@ stamps_in present = stamps_from present.nodes.now present.stamps
 abbrev pub graph_of : Present → GraphState
 graph_of present = seeing present.nodes.now (stamps_in present)
 
--- it is whole: it has an index of the sources, the outputs of the readings, and the settings of this content
+-- it is whole: it has an index of the sources, the folders in which their folders stand, the outputs of the readings, and the
+-- settings of this content
 pub record IsPresent (config : Option Content) (present : Present) : Type 0 where
   pub index : IsIndexOf (IsSource (source (graph_of present))) present.index
+  pub parents : AreParents present.index.folders.keys present.parents
   pub made : AreMade present.nodes.now.readings present.made
   pub settings : AreSettings config (source (graph_of present) tup_config) present.settings
 

@@ -1,12 +1,15 @@
 //! Whether what a reading was told is still so.
 ghost use Rattle.std.specs.Prelude.{◌≡◌, ◌++◌, ◌∷◌, [], Option, IfOk, IfErr, bytes_eq};
 ghost use Rattle.std.specs.Bool.{Decides};
+ghost use Rattle.std.specs.BTreeSet.{contains};
 ghost use Rattle.std.specs.List.{list_any};
 ghost use Rattle.tup_path.specs.Name.{Names, Content};
+ghost use Rattle.tup_path.specs.Order.{by_names};
 ghost use Rattle.tup_rule.specs.declared.question.Question.TheVariants as asks;
 ghost use Rattle.tup_graph.specs.Answers.{IsKind, IsMadeElsewhere, IsOutputOf, IsSource};
 ghost use Rattle.tup_graph.specs.Graph.{source};
 ghost use Rattle.tup_closure.specs.Lists.{list_of};
+ghost use Rattle.tup_scan_diff.specs.Parents.{StandsIn};
 ghost use Rattle.tup_scan_diff.specs.Present.{IsPresent, IsWhole, graph_of};
 ghost use Rattle.tup_scan_diff.specs.Told.{AreNames, AreToldSo, IsToldOtherwise, IsToldSo, Tells};
 
@@ -197,10 +200,22 @@ impl Present<'_> {
         if self.is_source_beside(reader, beside, path, name) {
             return Kind::File;
         }
-        if self.index.folders.contains(path) {
+        if self.is_folder_beside(reader, path) {
             return Kind::Dir;
         }
         Kind::Nothing
+    }
+
+    /// Whether a path in the folder that is read is a folder of sources. Most folders have none in them, which is told sooner.
+    fn is_folder_beside(&self, reader: &Path, path: &Path) -> bool
+        requires present { IsWhole self.now }
+        requires inside { StandsIn reader.now path.now }
+        ensures { result ≡ contains by_names self.now.index.folders path.now }
+    {
+        if !self.parents.contains(reader) {
+            return false;
+        }
+        self.index.folders.contains(path)
     }
 
     /// Whether a path in the folder that is read is a source. Most answers are about these, and a look through a few names is
@@ -254,19 +269,20 @@ impl Present<'_> {
         if dir == *reader {
             return Ok(false);
         }
-        Ok(self.has_output(&dir, &name))
+        Ok(self.has_output(&dir, &name, path))
     }
 
-    /// Whether the reading of a folder, which has a Tupfile, has an output of this name in the folder.
-    fn has_output(&self, dir: &Path, name: &Text) -> bool
+    /// Whether a path is an output of the reading of its folder, which has a Tupfile. These are its folder and its name there.
+    fn has_output(&self, dir: &Path, name: &Text, path: &Path) -> bool
         requires present { IsWhole self.now }
+        requires parts { path.now ≡ dir.now ++ name.now ∷ [] }
         ensures { Decides result (IsOutputOf (source (graph_of self.now))
-            self.now.nodes.now.readings dir.now (dir.now ++ name.now ∷ [])) }
+            self.now.nodes.now.readings dir.now path.now) }
     {
         if !self.index.tupfiles.contains(dir) {
             return false;
         }
-        self.made.has(dir, name)
+        self.made.has(self.nodes, dir, name, path)
     }
 }
 

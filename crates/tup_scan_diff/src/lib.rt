@@ -11,6 +11,7 @@ mod index;
 mod laws;
 mod made;
 mod names;
+mod parents;
 mod present;
 mod roots;
 mod scan;

@@ -1,10 +1,9 @@
 //! The outputs of readings, by their folders.
-ghost use Rattle.std.specs.Prelude.{◌≡◌, ◌++◌, ◌∷◌, [], IfOk, IfErr, OnOk};
+ghost use Rattle.std.specs.Prelude.{◌≡◌, ◌⊎◌, ◌++◌, ◌∷◌, [], IfOk, IfErr, OnOk};
 ghost use Rattle.std.specs.Bool.{Decides};
-ghost use Rattle.std.specs.FinMap as finite;
-ghost use Rattle.std.specs.Option.{option_copied};
 ghost use Rattle.tup_path.specs.Order.{by_bytes};
-ghost use Rattle.tup_scan_diff.specs.Made.{AreMade, HasMade, IsGiven};
+ghost use Rattle.tup_rule.specs.Rule.{among};
+ghost use Rattle.tup_scan_diff.specs.Made.{AreMade, HasOutput, IsGiven, makes};
 ghost use Rattle.tup_scan_diff.specs.Names.{IsDraftedIn, IsIn};
 ghost use Rattle.tup_scan_diff.specs.Sets.{GrowsBy};
 
@@ -14,10 +13,13 @@ use tup_graph::{GraphFault, Nodes};
 use tup_path::{ByPath, Path, Text};
 use tup_rule::Draft;
 
-/// The outputs of readings, by their folders.
+/// So many outputs of a reading are looked through one after another; where there are more, their names are put into a set.
+const FEW: usize = 32;
+
+/// The outputs of the readings that have many, by their folders.
 #[derive(Drop)]
 pub(crate) struct Made {
-    /// For each folder that was read, the names of those outputs of its reading that stand in it.
+    /// For each folder whose reading has more than a few outputs, the names of those that stand in it.
     names: ByPath<BTreeSet<Text>>,
 }
 
@@ -31,9 +33,21 @@ impl Made {
             names: ByPath::new(alloc),
         };
         for (dir, reading) in nodes.readings() {
-            made.give(alloc, dir, reading.drafts.as_slice())?;
+            made.give_many(alloc, dir, reading.drafts.as_slice())?;
         }
         Ok(made)
+    }
+
+    /// The reading of a folder has these drafts. Where they have few outputs nothing is kept of them.
+    fn give_many(&mut self, alloc: Global, dir: &Path, drafts: &[Draft]) -> Result<(), GraphFault>
+        ensures given { OnOk result ((self.new ≡ self.old)
+            ⊎ IsGiven dir.now drafts.now self.old self.new) }
+        ensures memory { IfErr result (λ fault. fault ≡ GraphFault.Memory) }
+    {
+        if have_few(drafts) {
+            return Ok(());
+        }
+        self.give(alloc, dir, drafts)
     }
 
     /// The reading of a folder has these drafts.
@@ -47,26 +61,60 @@ impl Made {
         Ok(())
     }
 
-    /// The names of the outputs in a folder, where it was read.
-    pub(crate) fn of(&self, dir: &Path) -> Option<&BTreeSet<Text>>
-        ensures { option_copied result ≡ finite.get self.now.names dir.now }
+    /// Whether a path is an output of the reading of its folder. These are its folder and its name there.
+    pub(crate) fn has(&self, nodes: &Nodes, dir: &Path, name: &Text, path: &Path) -> bool
+        requires made { AreMade nodes.now.readings self.now }
+        requires parts { path.now ≡ dir.now ++ name.now ∷ [] }
+        ensures { Decides result (HasOutput nodes.now.readings dir.now path.now) }
     {
-        self.names.get(dir)
-    }
-
-    /// Whether a folder has an output of this name.
-    pub(crate) fn has(&self, dir: &Path, name: &Text) -> bool
-        ensures { Decides result (HasMade self.now dir.now name.now) }
-    {
-        match self.of(dir) {
+        match self.names.get(dir) {
             Some(names) => names.contains(name),
-            None => false,
+            None => reading_makes(nodes, dir, path),
         }
     }
 }
 
+/// Whether drafts have so few outputs that these are looked through.
+fn have_few(drafts: &[Draft]) -> bool {
+    let mut outputs: usize = 0;
+    for draft in drafts {
+        outputs = outputs.saturating_add(draft.outputs.as_slice().len());
+    }
+    outputs <= FEW
+}
+
+/// Whether the reading of a folder has this output, which is looked for among all.
+fn reading_makes(nodes: &Nodes, dir: &Path, path: &Path) -> bool
+    ensures { Decides result (HasOutput nodes.now.readings dir.now path.now) }
+{
+    match nodes.reading(dir) {
+        Some(reading) => make(reading.drafts.as_slice(), path),
+        None => false,
+    }
+}
+
+/// Whether a path is an output of one of some drafts.
+fn make(drafts: &[Draft], path: &Path) -> bool
+    ensures { result ≡ makes path.now drafts.now }
+{
+    drafts
+        .iter()
+        .any(|draft| is_among(draft.outputs.as_slice(), path))
+}
+
+/// Whether a path is one of these.
+fn is_among(paths: &[Path], path: &Path) -> bool
+    ensures { result ≡ among path.now paths.now }
+{
+    paths.iter().any(|one| path == one)
+}
+
 /// Adds the names of those outputs of drafts that stand in a folder.
-fn add_drafted(names: &mut BTreeSet<Text>, dir: &Path, drafts: &[Draft]) -> Result<(), GraphFault>
+pub(crate) fn add_drafted(
+    names: &mut BTreeSet<Text>,
+    dir: &Path,
+    drafts: &[Draft],
+) -> Result<(), GraphFault>
     ensures names { OnOk result
         (GrowsBy by_bytes (IsDraftedIn drafts.now dir.now) names.old names.new) }
     ensures memory { IfErr result (λ fault. fault ≡ GraphFault.Memory) }

@@ -9,6 +9,7 @@ ghost use Rattle.tup_scan_diff.specs.Present.{IsWhole, graph_of};
 ghost use Rattle.tup_scan_diff.specs.Sets.{Has, GrowsBy};
 ghost use Rattle.tup_scan_diff.specs.Told.{AreNames};
 
+use crate::made::add_drafted;
 use crate::present::Present;
 use std::alloc::Global;
 use std::collections::BTreeSet;
@@ -63,8 +64,8 @@ impl Present<'_> {
         if !self.index.tupfiles.contains(dir) {
             return Ok(());
         }
-        match self.made.of(dir) {
-            Some(made) => add_set(names, made),
+        match self.nodes.reading(dir) {
+            Some(reading) => add_drafted(names, dir, reading.drafts.as_slice()),
             None => Ok(()),
         }
     }
@@ -85,17 +86,6 @@ fn listed(alloc: Global, names: &BTreeSet<Text>) -> Result<Texts, GraphFault>
 /// Adds names.
 fn add_names(names: &mut BTreeSet<Text>, more: &[Text]) -> Result<(), GraphFault>
     ensures names { OnOk result (GrowsBy by_bytes (Contains more.now) names.old names.new) }
-    ensures memory { IfErr result (λ fault. fault ≡ GraphFault.Memory) }
-{
-    for name in more {
-        names.insert(name.clone()?)?;
-    }
-    Ok(())
-}
-
-/// Adds the names of a set.
-fn add_set(names: &mut BTreeSet<Text>, more: &BTreeSet<Text>) -> Result<(), GraphFault>
-    ensures names { OnOk result (GrowsBy by_bytes (Contains more.now.keys) names.old names.new) }
     ensures memory { IfErr result (λ fault. fault ≡ GraphFault.Memory) }
 {
     for name in more {

@@ -7,9 +7,11 @@ ghost use Rattle.tup_scan_diff.specs.Present.{IsPresent, graph_of, seeing, stamp
 
 use crate::index::Index;
 use crate::made::Made;
+use crate::parents::parents_of;
 use crate::settings::Settings;
 use crate::stamps::Stamps;
 use std::alloc::Global;
+use std::collections::BTreeSet;
 use tup_graph::{GraphFault, Nodes};
 use tup_path::Path;
 use tup_scan::Seen;
@@ -22,6 +24,8 @@ pub(crate) struct Present<'g> {
     pub(crate) stamps: Stamps,
     /// The sources by their folders.
     pub(crate) index: Index,
+    /// The folders in which a folder of sources stands.
+    pub(crate) parents: BTreeSet<Path>,
     /// The outputs of the readings by their folders.
     pub(crate) made: Made,
     pub(crate) settings: Settings,
@@ -41,6 +45,7 @@ impl<'g> Present<'g> {
     {
         let stamps = Stamps::of(alloc, nodes, seen.files.as_slice())?;
         let index = Index::new(alloc, nodes, seen.files.as_slice())?;
+        let parents = parents_of(alloc, &index.folders)?;
         let made = Made::new(alloc, nodes)?;
         let stamp = config_stamp(alloc, nodes, &stamps)?;
         let settings = Settings::new(alloc, stamp, &seen.config)?;
@@ -48,6 +53,7 @@ impl<'g> Present<'g> {
             nodes,
             stamps,
             index,
+            parents,
             made,
             settings,
         })

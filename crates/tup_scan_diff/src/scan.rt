@@ -20,8 +20,8 @@ use tup_scan::Seen;
 ///
 /// Of each key there is one edit, and none that changes nothing. It looks at the files, at the readings, at the rules that
 /// are flagged or whose records may not tell what was seen before, and at those that use a path which has another stamp
-/// now: a rule that is none of these isn't looked at. The outputs of the readings are put into a map once, so that what a
-/// reading asked about a path takes one lookup.
+/// now: a rule that is none of these isn't looked at. Where a reading has many outputs, their names are put into a set once, so
+/// that what another reading asked about a path there takes one lookup.
 ///
 /// From the rules that are flagged or touched it takes the steps of `above`; after a refusal it has taken no more.
 pub fn note_scan<L: Ledger>(

@@ -1,8 +1,6 @@
-use Rattle.tup_scan_diff.proofs.Making.{made_nowhere, made_there}
+use Rattle.tup_scan_diff.proofs.Making.{kept_decides}
 use Rattle.tup_scan_diff.proofs.made.Made.has.Goals as goal
 
 pub returns-in-Some : goal.returns-in-Some
-returns-in-Some c = made_there c.args.self.now c.args.dir.now c.args.name.now c.in-Some.names.now c.contains.result c.in-Some.ensures c.contains.ensures
-
-pub returns-in-None : goal.returns-in-None
-returns-in-None c = made_nowhere c.args.self.now c.args.dir.now c.args.name.now c.in-None.ensures
+returns-in-Some c =
+    kept_decides c.args.nodes.now.readings c.args.self.now c.requires.made c.args.dir.now c.args.name.now c.args.path.now c.requires.parts c.in-Some.names.now c.contains.result c.in-Some.ensures c.contains.ensures

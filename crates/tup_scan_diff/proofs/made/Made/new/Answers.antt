@@ -1,8 +1,9 @@
-use Rattle.std.proofs.Common.{List, ◌∷◌, [], ◌++◌, ◌∙◌, ap, map, sym, subst}
+use Rattle.std.proofs.Common.{◌≡◌, List, ◌∷◌, [], ◌∙◌, map, sym, subst}
+use Rattle.std.specs.Prelude.{◌⊎◌}
 use Rattle.std.specs.FinMap as finite
 use Rattle.std.specs.Map.Iter.{deref_pair}
 use Rattle.std.proofs.lemmas.List.{map-append}
-use Rattle.std.proofs.lemmas.Map.Iter.{iter_end, rest_more, rest_so_far}
+use Rattle.std.proofs.lemmas.Map.Iter.{iter_end}
 use Rattle.tup_path.specs.Name.{Names}
 use Rattle.tup_rule.specs.declared.draft.Draft.{Draft}
 use Rattle.tup_rule.specs.declared.question.Reading.{Reading}
@@ -18,13 +19,9 @@ loop-dir-preserved c =
     let dir = c.in-Some.dir.now in
     let reading = c.in-Some.reading.now in
     let before = map deref_pair c.loop-dir.yielded in
-    let start = c.into_iter-dir-iterator.ensures.into_iter_gives ∙ c.readings-dir-items.ensures in
-    let so_far = rest_so_far deref_pair c.loop-dir.yielded c.into_iter-dir-iterator.result c.loop-dir.dir-iterator c.loop-dir.yielded_by in
-    let next = rest_more deref_pair c.loop-dir.dir-iterator c.next.new.self c.next.result (c.in-Some.dir, c.in-Some.reading) c.in-Some.is c.next.ensures.steps in
-    subst (λ (l : List (Names × Reading)). AreMadeOf l c.give.new.self) (sym (map-append deref_pair c.loop-dir.yielded ((c.in-Some.dir, c.in-Some.reading) ∷ [])))
-    (made_more c.args.nodes.now.readings before dir reading c.next.new.self c.loop-dir.made c.give.new.self
-    (sym start ∙ so_far ∙ ap (λ (l : List (Names × Reading)). before ++ l) next) c.loop-dir.invariant
-    (subst (λ (l : List Draft). IsGiven dir l c.loop-dir.made c.give.new.self) c.as_slice.ensures c.in_ok-give.ensures.given))
+    subst (λ (l : List (Names × Reading)). AreMadeOf l c.give_many.new.self) (sym (map-append deref_pair c.loop-dir.yielded ((c.in-Some.dir, c.in-Some.reading) ∷ [])))
+    (made_more before dir reading c.loop-dir.made c.give_many.new.self c.loop-dir.invariant
+    (subst (λ (l : List Draft). (c.give_many.new.self ≡ c.loop-dir.made) ⊎ IsGiven dir l c.loop-dir.made c.give_many.new.self) c.as_slice.ensures c.in_ok-give_many.ensures.given))
 
 pub returns-clause-made : goal.returns-clause-made
 returns-clause-made c =

@@ -8,9 +8,9 @@ returns-then-not-contains-clause-names c = no_outputs c.args.self.now c.requires
 
 pub returns-in-Some-clause-names : goal.returns-in-Some-clause-names
 returns-in-Some-clause-names c =
-    on_ok_weaker c.add_set.result
-    (outputs_there c.args.self.now c.requires.present.0 c.requires.present.1 c.args.dir.now c.in-Some.made.now c.args.names.now c.add_set.new.names (sym c.contains.ensures ∙ c.if-not-contains.false) c.in-Some.ensures)
-    c.add_set.ensures.names
+    on_ok_weaker c.add_drafted.result
+    (outputs_there c.args.self.now c.requires.present.0 c.requires.present.1 c.args.dir.now c.in-Some.reading.now c.as_slice.result.now c.args.names.now c.add_drafted.new.names (sym c.contains.ensures ∙ c.if-not-contains.false) c.in-Some.ensures c.as_slice.ensures)
+    c.add_drafted.ensures.names
 
 pub returns-in-None-clause-names : goal.returns-in-None-clause-names
 returns-in-None-clause-names c = outputs_nowhere c.args.self.now c.requires.present.0 c.requires.present.1 c.args.dir.now c.args.names.now c.in-None.ensures

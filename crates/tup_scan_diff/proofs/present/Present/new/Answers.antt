@@ -9,7 +9,7 @@ use Rattle.tup_scan_diff.proofs.present.Present.new.Goals as goal
 
 pub returns-clause-present : goal.returns-clause-present
 returns-clause-present c =
-    present_is (record { nodes = c.args.nodes; stamps = c.in_ok-stamps.stamps; index = c.in_ok-index.index; made = c.in_ok-made.made; settings = c.in_ok-settings.settings }) c.args.seen.now.files c.args.seen.now.config c.in_ok-stamp.stamp
+    present_is (record { nodes = c.args.nodes; stamps = c.in_ok-stamps.stamps; index = c.in_ok-index.index; parents = c.in_ok-parents.parents; made = c.in_ok-made.made; settings = c.in_ok-settings.settings }) c.args.seen.now.files c.args.seen.now.config c.in_ok-stamp.stamp
     (c.in_ok-stamps.ensures.stamps ∙ ap (λ (l : List (Names × Stamp)). finite.from_entries {R = by_names} l) c.as_slice.ensures)
     (subst (λ (l : List (Names × Stamp)). IsIndexOf (IsSourceAmong c.args.nodes.now l) c.in_ok-index.index) c.as_slice-2.ensures c.in_ok-index.ensures.index)
-    c.in_ok-made.ensures.made c.in_ok-stamp.ensures.stamp c.in_ok-settings.ensures.settings
+    c.in_ok-parents.ensures.parents c.in_ok-made.ensures.made c.in_ok-stamp.ensures.stamp c.in_ok-settings.ensures.settings
