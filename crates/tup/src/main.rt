@@ -436,6 +436,7 @@ fn run_crew<W: Threads + Wait + Sync, R: Runner + Send>(
     }
     hint::begin(rt, call.top, &ran.status);
     hint::begin_anew(rt, alloc, call.top, &ran.status);
+    ran.site.leave();
     for progress in ran.crew {
         // Without room it is dropped.
         drop(back.push(progress.into_runner()));

@@ -1,10 +1,12 @@
 -- What is known after a place was noted.
-use Rattle.std.proofs.Common.{◌≡◌, Bool, true, false, cond, Option, Some, String, Global, string_bytes, refl, ap, ◌∙◌}
-use Rattle.std.specs.HashMap.{get_by_text, Updates}
-use Rattle.std.specs.String.{string_eq}
+use Rattle.std.proofs.Common.{◌≡◌, ℕ, Bool, true, false, cond, List, Option, Some, String, Global, string_bytes, refl, ap, subst, sym, ◌∙◌}
+use Rattle.std.specs.HashMap.{IsUnique, get_by_text, Updates}
+use Rattle.std.specs.String.{string_eq, string_eq_equiv}
 use Rattle.std.specs.Str.{bytes_eq}
 use Rattle.std.proofs.lemmas.Map.Text.{hash_map_updates_text}
-use Rattle.tup_fs.specs.Answers.{Learns, known_from}
+use Rattle.indexmap.specs.IndexMap.{with_value_at}
+use Rattle.indexmap.proofs.CallerLemmas.{updates-with_value_at}
+use Rattle.tup_fs.specs.Answers.{IsNext, Learns, known_from}
 use Rattle.tup_fs.specs.declared.answers.Answers.{Answers}
 use Rattle.tup_fs.specs.declared.answers.Known.{Known}
 
@@ -19,3 +21,12 @@ noted old new place known listed updates other =
     ap (λ is_listed. known_from is_listed (get_by_text new.places other)) listed
     ∙ ap (known_from old.is_listed) (hash_map_updates_text (string_bytes place) old.places new.places (Some known) updates other)
     ∙ from_either old.is_listed (bytes_eq (string_bytes place) other) known (get_by_text old.places other)
+
+-- and so is one that is written at the next place
+pub noted_next : (old new : Answers) (place : List ℕ) (known : Known) → new.is_listed ≡ old.is_listed → IsUnique string_eq old.places
+    → new.places ≡ with_value_at old.places old.next known → IsNext old place → Learns old new place known
+noted_next old new place known listed unique written (next, was, here, is) =
+    subst (λ p. Learns old new p known) is
+    (noted old new next known listed
+    (subst (λ places. Updates string_eq old.places places next (Some known)) (sym written)
+    (updates-with_value_at old.places old.next known string_eq_equiv unique next was here)))

@@ -1,5 +1,6 @@
 -- What is known of the files by what was answered for them, and what may be found next. Own.
-use Rattle.std.specs.Prelude.{◌≡◌, ◌≢◌, ℕ, Bool, true, false, IsTrue, ◌==◌, List, Option, Some, None, if◌then◌else◌}
+use Rattle.std.specs.Prelude.{◌≡◌, ◌≢◌, ℕ, Bool, true, false, IsTrue, ◌==◌, List, Option, Some, None, String, slice_get, string_bytes, if◌then◌else◌}
+use Rattle.std.specs.Global.{Global}
 use Rattle.std.specs.HashMap.{get_by_text}
 use Rattle.std.specs.Hash.DefaultHasher.{initial, write, finish}
 use Rattle.std.specs.Str.{bytes_eq}
@@ -23,6 +24,10 @@ known_from false None = Unknown
 -- the same of a place of the map
 abbrev pub known_at : Answers → List ℕ → Known
 known_at answers place = known_from answers.is_listed (get_by_text answers.places place)
+
+-- a place is the next one of the map
+abbrev pub IsNext : Answers → List ℕ → Type 0
+IsNext answers place = (next : String Global) × (known : Known) × (slice_get answers.places.entries answers.next ≡ Some (next, known)) × (string_bytes next ≡ place)
 
 -- what is known of a place where this was found
 abbrev pub known_of : Found → Known

@@ -1,15 +1,16 @@
 //! What was answered for the files, so that no later answer says anything else.
-ghost use Rattle.std.specs.Prelude.{◌≡◌, ◌⊎◌, not, is_some, IfOk, IfErr, OnOk, OnErr, string_bytes};
+ghost use Rattle.std.specs.Prelude.{◌≡◌, ◌⊎◌, not, is_some, IfOk, IfErr, IsTrue, OnOk, OnErr, string_bytes};
+ghost use Rattle.std.specs.HashMap.{get_by_text};
 ghost use Rattle.tup_disk.specs.Told.{IsNamed};
 ghost use Rattle.tup_disk.specs.declared.failure.Operation.TheVariants as operation;
 ghost use Rattle.tup_disk.specs.declared.failure.Refused.TheVariants.{Memory};
-ghost use Rattle.tup_fs.specs.Answers.{Follows, Learns, StayKnown};
+ghost use Rattle.tup_fs.specs.Answers.{Follows, IsNext, Learns, StayKnown};
 ghost use Rattle.tup_fs.specs.Answers as specs;
 ghost use Rattle.tup_fs.specs.declared.answers.Known.TheVariants.{Unknown};
 
 use crate::reading::Found;
+use indexmap::IndexMap;
 use std::alloc::Global;
-use std::collections::HashMap;
 use std::fs::File;
 use std::hash::{DefaultHasher, Hasher};
 use std::io;
@@ -32,7 +33,9 @@ pub(crate) enum Known {
 /// What is known of all places, by what was listed, read, put and removed.
 #[derive(Drop)]
 pub(crate) struct Answers {
-    places: HashMap<String, Known>,
+    places: IndexMap<String, Known>,
+    /// The place behind the one that was last learned of: files are mostly asked for as they were listed, folder by folder.
+    next: usize,
     is_listed: bool,
 }
 
@@ -42,7 +45,8 @@ impl Answers {
         ensures { (place : _) → specs.known_at result place ≡ Unknown }
     {
         Answers {
-            places: HashMap::new(alloc),
+            places: IndexMap::new(alloc),
+            next: 0,
             is_listed: false,
         }
     }
@@ -51,10 +55,30 @@ impl Answers {
     pub fn known_at(&self, place: &str) -> Known
         ensures { result ≡ specs.known_at self.now place.now }
     {
-        match self.places.get(place) {
-            Some(known) => *known,
+        match self.noted(place) {
+            Some(known) => known,
             None if self.is_listed => Known::Absent,
             None => Known::Unknown,
+        }
+    }
+
+    // What was noted of a place. Mostly that is the next one.
+    fn noted(&self, place: &str) -> Option<Known>
+        ensures { result ≡ get_by_text self.now.places place.now }
+    {
+        match self.places.get_index(self.next) {
+            Some((next, known)) if next.as_str() == place => Some(*known),
+            _ => self.places.get(place).copied(),
+        }
+    }
+
+    // Whether a place is the next one.
+    fn is_next(&self, place: &str) -> bool
+        ensures { IsTrue result → IsNext self.now place.now }
+    {
+        match self.places.get_index(self.next) {
+            Some((next, _)) => next.as_str() == place,
+            None => false,
         }
     }
 
@@ -66,8 +90,24 @@ impl Answers {
         ensures memory { IfErr result (λ refused. refused ≡ Memory) }
         ensures list { self.new.is_listed ≡ self.old.is_listed }
     {
-        self.places.insert(place, known)?;
+        if self.is_next(place.as_str()) {
+            self.learn_next(place.as_str(), known);
+            return Ok(());
+        }
+        let (at, _) = self.places.insert_full(place, known)?;
+        self.next = at.saturating_add(1);
         Ok(())
+    }
+
+    // From now on this is known of the next place.
+    fn learn_next(&mut self, place: &str, known: Known)
+        requires { IsNext self.old place.now }
+        ensures learns { Learns self.old self.new place.now known }
+        ensures list { self.new.is_listed ≡ self.old.is_listed }
+    {
+        let (_, there) = self.places.pair_mut(self.next);
+        *there = known;
+        self.next = self.next.saturating_add(1);
     }
 
     /// These are all files that there are. What was answered before still holds, as after the second time.
@@ -77,21 +117,22 @@ impl Answers {
         if self.is_listed {
             return Ok(());
         }
-        self.make_room(alloc, files.len())?;
-        for file in files {
-            self.add(file)?;
+        if self.places.is_empty() {
+            self.places = places_of(alloc, files)?;
+        } else {
+            self.add_all(files)?;
         }
         self.is_listed = true;
         Ok(())
     }
 
-    // Makes room for so many places at once, unless something is known of some.
-    fn make_room(&mut self, alloc: Global, count: usize) -> Result<(), Refused>
+    // There is a file at each of these places of which nothing else is known.
+    fn add_all(&mut self, files: Vec<Listed>) -> Result<(), Refused>
         ensures keeps { StayKnown self.old self.new }
         ensures list { self.new.is_listed ≡ self.old.is_listed }
     {
-        if self.places.is_empty() {
-            self.places = HashMap::with_capacity(alloc, count)?;
+        for file in files {
+            self.add(file)?;
         }
         Ok(())
     }
@@ -108,13 +149,16 @@ impl Answers {
         }
     }
 
-    /// Gives on what was found at a place, and remembers it. It is refused where something else is known of the place.
+    /// Gives on what was found at a place of which this is known, and remembers it. It is refused where something else is
+    /// known of the place.
     pub fn follow<R: Files<File = File> + Clone + Drop>(
         &mut self,
         disk: &Disk<R>,
         place: String,
+        known: Known,
         found: Found,
     ) -> Result<Found, Refused>
+        requires { known ≡ specs.known_at self.old (string_bytes place) }
         ensures given { IfOk result (λ answer. answer ≡ found) }
         ensures follows { OnOk result (Follows self.old (string_bytes place) (specs.known_of found)) }
         ensures learns { OnOk result
@@ -126,13 +170,22 @@ impl Answers {
             × ¬ Follows self.old (string_bytes place) (specs.known_of found))) }
     {
         let now = known_of(&found);
-        if let Some(change) = change(self.known_at(place.as_str()), now) {
+        if let Some(change) = change(known, now) {
             let error = io::Error::other(change);
             return Err(disk.refused(Operation::Read, place.as_str(), error));
         }
         self.learn(place, now)?;
         Ok(found)
     }
+}
+
+/// What is known of the places of these files, and of no others.
+fn places_of(alloc: Global, files: Vec<Listed>) -> Result<IndexMap<String, Known>, Refused> {
+    let mut places = IndexMap::with_capacity(alloc, files.len())?;
+    for file in files {
+        places.insert(file.place, Known::File(file.inode))?;
+    }
+    Ok(places)
 }
 
 /// What is known of a place where this was found.

@@ -39,9 +39,10 @@ impl Tree {
             (place_of (string_bytes disk.now.root) path.now) (known_of found)) }
     {
         let place = disk.place(path.names())?;
-        let found = self.look(disk, path, place.as_str())?;
+        let known = self.answers.known_at(place.as_str());
+        let found = self.look(disk, path, place.as_str(), known)?;
         let is_there = !matches!(found, Found::Nothing);
-        match self.answers.follow(disk, place, found) {
+        match self.answers.follow(disk, place, known, found) {
             Err(refused) if is_there => Err(self.blame(disk, path, refused)),
             told => told,
         }
@@ -69,12 +70,13 @@ impl Tree {
         self.check_spelling(disk, path, place.as_str())
     }
 
-    // What stands at a path now.
+    // What stands at a path now, of whose place this is known.
     fn look<R: Files<File = File> + Clone + Drop>(
         &mut self,
         disk: &Disk<R>,
         path: &Path,
         place: &str,
+        known: Known,
     ) -> Result<Found, Refused>
         ensures within { IfOk result IsWithin }
         ensures answers { self.new.answers ≡ self.old.answers }
@@ -82,7 +84,7 @@ impl Tree {
         if disk.standing_above(&mut self.seen, path)? != Standing::Folder {
             return Ok(Found::Nothing);
         }
-        if let Some((file, len)) = self.open_listed(disk, place)? {
+        if let Some((file, len)) = open_listed(disk, place, known)? {
             return read_within(disk, file, place, len);
         }
         match disk.standing(place)? {
@@ -92,17 +94,17 @@ impl Tree {
             _ => Ok(Found::Nothing),
         }
     }
+}
 
-    // The file that was listed at a path, if it wasn't read yet and is there still: it isn't looked at by its path again.
-    fn open_listed<R: Files<File = File> + Clone + Drop>(
-        &self,
-        disk: &Disk<R>,
-        place: &str,
-    ) -> Result<Option<(File, u64)>, Refused> {
-        match self.answers.known_at(place) {
-            Known::File(Some(inode)) => disk.open_listed(place, inode),
-            _ => Ok(None),
-        }
+/// The file that was listed at a place, if it wasn't read yet and is there still: it isn't looked at by its place again.
+fn open_listed<R: Files<File = File> + Clone + Drop>(
+    disk: &Disk<R>,
+    place: &str,
+    known: Known,
+) -> Result<Option<(File, u64)>, Refused> {
+    match known {
+        Known::File(Some(inode)) => disk.open_listed(place, inode),
+        _ => Ok(None),
     }
 }
 

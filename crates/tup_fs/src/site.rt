@@ -15,6 +15,7 @@ use crate::reading::Found;
 use crate::tree::Tree;
 use std::alloc::{AllocError, Global};
 use std::fs::File;
+use std::mem;
 use std::rt::Files;
 use tup_db::Store;
 use tup_disk::{Disk, Failure, Syncs, Touched};
@@ -61,6 +62,11 @@ impl<R: Files<File = File> + Clone + Drop> FsSite<R> {
         ensures { is_some result ≡ nat_lt 0 self.now.failures.count }
     {
         self.failures.last()
+    }
+
+    /// Gives back the lock. What is known of the files isn't freed piece by piece: this is for a program that ends.
+    pub fn leave(self) {
+        mem::forget(self.tree);
     }
 
     // Before anything else the first call takes the lock, and removes what a run that died has left.

@@ -1,6 +1,0 @@
-use Rattle.std.proofs.Common.{◌≡◌, false}
-use Rattle.tup_fs.specs.Answers.{StayKnown}
-use Rattle.tup_fs.proofs.answers.Answers.list.Given as goal
-
-abbrev pub invariant-loop-file : goal.invariant-loop-file
-invariant-loop-file l = StayKnown l.fn.self l.self × (l.self.is_listed ≡ false)
