@@ -9,13 +9,15 @@ ghost use Rattle.tup_path.specs.Order.{by_names};
 use crate::disk::Disk;
 use crate::failure::{Operation, Refused};
 use crate::standing::{Inode, Seen, Standing, look};
-use std::alloc::Global;
+use std::alloc::{AllocError, Global};
 use std::collections::VecDeque;
-use std::fs::{DirEntry, File};
-use std::io::ErrorKind;
+use std::fs::File;
+use std::io::{ErrorKind, Read};
 use std::rt::Files;
-use std::{fs, io};
 use tup_path::{MAX_DEPTH, Path, PathFault, Text};
+
+/// How many bytes of names are read from a folder at a time; a name has at most 255.
+const READ_AT_ONCE: usize = 8192;
 
 /// All files below the folder.
 #[derive(Drop)]
@@ -156,39 +158,77 @@ impl<R: Files<File = File> + Clone + Drop> Disk<R> {
         }
     }
 
-    /// The names in a folder; one that isn't a text is passed over.
+    /// The names in a folder. One that isn't a text is passed over, and so is one that begins with a dot, as `.` and `..`.
     pub fn names_in(&self, folder: &str) -> Result<Vec<Text>, Refused>
         ensures cause { IfErr result (λ refused. (refused ≡ Memory)
             ⊎ IsNamed Operation.List folder.now refused) }
     {
-        let runtime = (self.rt.clone()?, self.alloc);
+        let mut open = self.open_folder(folder)?;
+        let mut bytes = buffer(self.alloc)?;
         let mut names = Vec::new(self.alloc);
-        let entries = match fs::read_dir(&runtime, folder) {
-            Ok(entries) => entries,
-            Err(e) => return Err(self.refused(Operation::List, folder, e)),
-        };
-        for entry in entries {
-            self.add_name(folder, &mut names, entry)?;
+        for _ in 0..u64::MAX {
+            if !self.read_names(folder, &mut open, &mut bytes, &mut names)? {
+                break;
+            }
         }
         Ok(names)
     }
 
-    fn add_name(
+    // Adds the next names of an open folder, and tells whether there were any.
+    fn read_names(
         &self,
         folder: &str,
+        open: &mut R::Dir,
+        bytes: &mut [u8],
         names: &mut Vec<Text>,
-        entry: io::Result<DirEntry<(R, Global)>>,
-    ) -> Result<(), Refused>
+    ) -> Result<bool, Refused>
         ensures cause { IfErr result (λ refused. (refused ≡ Memory)
             ⊎ IsNamed Operation.List folder.now refused) }
     {
-        match entry {
-            Ok(entry) => names.push(Text::from_str(self.alloc, entry.file_name())?)?,
-            Err(e) if e.kind() == ErrorKind::InvalidFilename => {}
-            Err(e) => return Err(self.refused(Operation::List, folder, e)),
+        let len = self.at(Operation::List, folder, open.read(bytes))?;
+        self.add_names(&bytes[..len], names)?;
+        Ok(len > 0)
+    }
+
+    // Opens a folder, to read its names. With the slash that may be the top folder by a link.
+    fn open_folder(&self, folder: &str) -> Result<R::Dir, Refused>
+        ensures cause { IfErr result (λ refused. (refused ≡ Memory)
+            ⊎ IsNamed Operation.List folder.now refused) }
+    {
+        let place = format!(in self.alloc; "{folder}/")?;
+        self.at(Operation::List, folder, self.rt.open_dir(place.as_str()))
+    }
+
+    // Adds names as a folder is read: with a zero byte behind each.
+    fn add_names(&self, bytes: &[u8], names: &mut Vec<Text>) -> Result<(), Refused>
+        ensures cause { IfErr result (λ refused. refused ≡ Memory) }
+    {
+        for name in bytes.split(|byte| *byte == 0) {
+            if !is_passed_over(name) {
+                self.add_name(name, names)?;
+            }
         }
         Ok(())
     }
+
+    fn add_name(&self, name: &[u8], names: &mut Vec<Text>) -> Result<(), Refused>
+        ensures cause { IfErr result (λ refused. refused ≡ Memory) }
+    {
+        if let Some(name) = Text::from_utf8(self.alloc, name)? {
+            names.push(name)?;
+        }
+        Ok(())
+    }
+}
+
+// What the names of a folder are read into.
+fn buffer(alloc: Global) -> Result<Vec<u8>, AllocError> {
+    vec![in alloc; 0u8; READ_AT_ONCE]
+}
+
+// Whether a name begins with a dot, or is none: what is behind the last zero byte.
+fn is_passed_over(name: &[u8]) -> bool {
+    matches!(name.first(), None | Some(b'.'))
 }
 
 // Whether a file of this name says what is to be built: it isn't passed over in silence.
