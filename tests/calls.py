@@ -9,7 +9,6 @@ CALLS = ["0 init", "1 the first update", "2 nothing to do", "3 a header was edit
 CALL = "tup_top::call::tup::"
 STEPS = [
     ("tup_stored_graph::graph::Graph::open::", "the store is opened"),
-    ("tup_commit::note::know_users", "the maps of readers"),
     ("tup_site::memory_calls::MemSiteSite::list", "the files are listed and digested"),
     ("tup_scan_diff::scan::note_scan::", "the scan is compared with what was kept"),
     ("tup_refresh::outline::outline", "the outline of the readings"),
