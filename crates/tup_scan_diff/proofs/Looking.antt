@@ -1,12 +1,12 @@
--- The rules to begin with after a scan are found among few.
+-- The rules to begin with after a scan are found among few, or among all.
 use Rattle.std.specs.Prelude.{◌≡◌, ◌≢◌, ◌⊎◌, ◌↔◌, ◌+◌, ◌<◌, ◌≤◌, ℕ, Bool, true, false, not, List, [], ◌∷◌, ◌++◌, Option, None, Some, Contains, is_none, is_some, length, map, filter}
-use Rattle.std.proofs.Common.{refl, sym, ap, subst, ◌∙◌, inl, inr, take, get_or}
+use Rattle.std.proofs.Common.{refl, sym, ap, subst, ◌∙◌, inl, inr, take, get_or, arith}
 use Rattle.std.specs.BTreeSet.{BTreeSet}
 use Rattle.std.specs.Cmp.{nat_cmp_total}
 use Rattle.std.specs.FinMap as finite
 use Rattle.std.specs.FinMap.{nat_cmp-IsAntisymmetric}
 use Rattle.std.specs.Ordering.{nat_cmp}
-use Rattle.std.proofs.lemmas.Bool.{true≢false}
+use Rattle.std.proofs.lemmas.Bool.{cases_lt, lt-ltb, ltb-true, true≢false}
 use Rattle.std.proofs.lemmas.List.{take_all, take_more}
 use Rattle.std.proofs.lemmas.List.Elements.{Contains-append_left, Contains-append_right, Contains-push, Contains-push_cases}
 use Rattle.std.proofs.lemmas.Option.{none-some, same_Some}
@@ -15,7 +15,7 @@ use Rattle.tup_path.specs.Order.{by_names}
 use Rattle.tup_stamp.specs.declared.Stamp.{Stamp}
 use Rattle.tup_graph.specs.declared.edit.Edit.{Edit}
 use Rattle.tup_graph.specs.Above.{HasAsked}
-use Rattle.tup_graph.specs.Graph.{GraphState, is_flagged}
+use Rattle.tup_graph.specs.Graph.{GraphState, is_flagged, is_rule}
 use Rattle.tup_graph.specs.Kept.{Asked}
 use Rattle.tup_graph.specs.Scan.{IsTouched}
 use Rattle.tup_graph.specs.Transactions.{seen_so}
@@ -86,6 +86,26 @@ module _ (g : GraphState) where
 
       last_one : (n : ℕ) → n ≡ number → HasEntry (entries ++ (number, flag) ∷ []) n
       last_one n is = (flag, subst (λ (k : ℕ). Contains (entries ++ (number, flag) ∷ []) (k, flag)) (sym is) (Contains-push entries (number, flag)))
+
+  -- number after number
+  pub none_below : {A : ℕ → Type 0} → Finds (λ n. n < 0) A A
+  none_below = none_looked (λ n h. omega (arith, h))
+
+  pub next_looked : {A B C : ℕ → Type 0} (number : ℕ) → Finds (λ n. n < number) A B → Grows (λ n. (n ≡ number) × IsScanRoot g number) B C → Finds (λ n. n < number + 1) A C
+  next_looked number so_far one = looked cases (λ n h. omega (arith, h)) (λ n is. omega (arith, is)) so_far (at_one number one)
+    where
+      cases : (n : ℕ) → n < number + 1 → n < number ⊎ (n ≡ number)
+      cases n h = elim (cases_lt n number) [ inl less ↦ inl less | inr not_less ↦ inr (omega (arith, h, not_less)) ]
+
+  pub every_looked : {A B : ℕ → Type 0} (count : ℕ) → count ≡ length g.rules → Finds (λ n. n < count) A B → Finds (λ n. is_rule g n ≡ true) A B
+  every_looked {A} {B} count all so_far = looked_as (λ n. (lt-ltb n (length g.rules), ltb-true n (length g.rules))) (subst (λ (k : ℕ). Finds (λ n. n < k) A B) all so_far)
+
+  -- all roots are among all rules
+  pub among_every : (Start Found : List ℕ) → Start ≡ [] → Finds (λ n. is_rule g n ≡ true) (Contains Start) (Contains Found) → (n : ℕ) → Contains Found n ↔ IsScanRoot g n
+  among_every Start Found empty every n = (to, λ root. every.all n (root.0, root))
+    where
+      to : Contains Found n → IsScanRoot g n
+      to h = elim (every.only n h) [ inl before ↦ absurd (none_in n (subst (λ (l : List ℕ). Contains l n) empty before)) | inr found ↦ found.1 ]
 
   pub users_looked : {A B C P Q : ℕ → Type 0} (h : GraphState) (path : Names) → ((n : ℕ) → P n ↔ HasAsked h n path) → ((n : ℕ) → Q n ↔ HasWritten h n path) → Finds P A B → Finds Q B C → Finds (IsUserOf h path) A C
   users_looked {A} {B} {C} {P} {Q} h path readers writers = looked cases (λ n p. inl ((readers n).0 p)) (λ n q. inr ((writers n).0 q))

@@ -4,7 +4,7 @@ ghost use Rattle.std.specs.List.Sorted.{IsStrictlySortedBy};
 ghost use Rattle.std.specs.Option.{option_copied};
 ghost use Rattle.std.specs.Ordering.{nat_cmp};
 ghost use Rattle.tup_graph.specs.Above.{IsAbove};
-ghost use Rattle.tup_graph.specs.Graph.{is_flagged};
+ghost use Rattle.tup_graph.specs.Graph.{is_flagged, is_rule};
 ghost use Rattle.tup_closure.specs.Grows.{Grows};
 ghost use Rattle.tup_closure.specs.Readers.{AreRunsOfRules};
 ghost use Rattle.tup_closure.specs.Steps.{HasStepped, HasSteppedAtMost};
@@ -18,11 +18,15 @@ use crate::present::Present;
 use std::alloc::Global;
 use std::collections::BTreeSet;
 use std::sync::ledger::Ledger;
-use tup_closure::{Steps, above};
+use tup_closure::{Steps, above, rule_count};
 use tup_graph::{Edit, GraphFault};
 use tup_path::{Items, Path};
 use tup_readers::Indexed;
 use tup_record::Record;
+
+/// Where more files than these are seen otherwise, each rule is looked at once. A rule that asks many of them would be
+/// looked at for each of them else.
+const MANY: usize = 16;
 
 impl Present<'_> {
     /// The rules that are to be run, in ascending order: those that are flagged or touched, and all that recorded reads
@@ -50,9 +54,41 @@ impl Present<'_> {
         above(alloc, graph, roots.as_slice(), steps)
     }
 
+    /// The rules that are flagged or touched. It looks at few rules where few files are seen otherwise, and at all rules where
+    /// many are.
+    fn roots(
+        &self,
+        alloc: Global,
+        graph: &Indexed,
+        edits: &[Edit],
+    ) -> Result<Items<u32>, GraphFault>
+        requires same { graph.now ≡ self.now.nodes.now }
+        requires seen { edits.now ≡ seen_edits self.now.nodes.now (stamps_in self.now) }
+        ensures roots { IfOk result (λ roots. (number : ℕ)
+            → Contains roots number ↔ IsScanRoot (graph_of self.now) number) }
+        ensures memory { IfErr result (λ fault. fault ≡ GraphFault.Memory) }
+    {
+        if edits.len() > MANY {
+            self.every_root(alloc)
+        } else {
+            self.near_roots(alloc, graph, edits)
+        }
+    }
+
+    /// The rules that are flagged or touched. It looks at each rule once.
+    fn every_root(&self, alloc: Global) -> Result<Items<u32>, GraphFault>
+        ensures roots { IfOk result (λ roots. (number : ℕ)
+            → Contains roots number ↔ IsScanRoot (graph_of self.now) number) }
+        ensures memory { IfErr result (λ fault. fault ≡ GraphFault.Memory) }
+    {
+        let mut roots = Items::new(alloc);
+        self.push_every(&mut roots)?;
+        Ok(roots)
+    }
+
     /// The rules that are flagged or touched. It looks at those that are flagged, at those that may have been touched
     /// before, and at those that use a path which these edits have seen otherwise.
-    fn roots(
+    fn near_roots(
         &self,
         alloc: Global,
         graph: &Indexed,
@@ -69,6 +105,18 @@ impl Present<'_> {
         self.push_set(&mut roots, graph.suspects())?;
         self.push_users_of(alloc, &mut roots, graph, edits)?;
         Ok(roots)
+    }
+
+    /// Adds all rules that are flagged or touched.
+    fn push_every(&self, roots: &mut Items<u32>) -> Result<(), GraphFault>
+        ensures roots { OnOk result (FindsRoots (graph_of self.now)
+            (λ number. is_rule self.now.nodes.now number ≡ true) roots.old roots.new) }
+        ensures memory { IfErr result (λ fault. fault ≡ GraphFault.Memory) }
+    {
+        for number in 0..rule_count(self.nodes)? {
+            self.push_root(roots, number)?;
+        }
+        Ok(())
     }
 
     /// Adds the rules that are flagged.

@@ -5,7 +5,7 @@ use Rattle.tup_readers.specs.Suspects.{HasAllOthers}
 use Rattle.tup_scan_diff.specs.Present.{graph_of, stamps_in}
 use Rattle.tup_scan_diff.specs.Touched.{FindsRoots, UsesOneOf}
 use Rattle.tup_scan_diff.proofs.Looking.{roots_found}
-use Rattle.tup_scan_diff.proofs.present.Present.roots.Goals as goal
+use Rattle.tup_scan_diff.proofs.present.Present.near_roots.Goals as goal
 
 pub returns-clause-roots : goal.returns-clause-roots
 returns-clause-roots c =
