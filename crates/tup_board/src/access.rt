@@ -166,7 +166,7 @@ fn may_read(alloc: Global, graph: &Indexed, rule: &Rule, path: &Path) -> Result<
 fn is_output(alloc: Global, graph: &Indexed, path: &Path) -> Result<bool, AllocError>
     ensures { IfOk result (λ is. is ≡ is_generated graph.now.rules path.now) }
 {
-    match graph.namers_of(alloc, path) {
+    match graph.near_namers_of(alloc, path) {
         Ok(numbers) => Ok(one_writes(graph.nodes().rules(), &numbers, path)),
         Err(_) => Err(AllocError),
     }

@@ -12,7 +12,7 @@ use Rattle.tup_path.specs.Name.{Names}
 use Rattle.tup_path.specs.Order.{by_names, by_names-antisymmetric, by_names-total}
 use Rattle.tup_stamp.specs.declared.Stamp.{Stamp}
 use Rattle.tup_record.specs.declared.run.RunRecord.{RunRecord}
-use Rattle.tup_readers.specs.Changes.{Adds, Takes}
+use Rattle.tup_readers.specs.Changes.{Adds, AddsAtLeast, Takes}
 use Rattle.tup_graph.specs.Graph.{GraphState}
 use Rattle.tup_readers.specs.Index.{IsUserIn}
 use Rattle.tup_readers.specs.Suspects.{AskedOther, HasAllOthers, HasOthersOf, IsAmong, Runs, Stamps, TellsOther, WroteOther}
@@ -61,22 +61,22 @@ gone_elsewhere seen path q apart = finite.get-remove by_names-total seen path q 
     either false e = refl
 
 module _ (g : GraphState) (later : Stamps) (path : Names) (old new : BTreeSet ℕ) where
-  pub seen_moved : ((q : Names) → (q ≡ path → ⊥) → finite.get later q ≡ finite.get g.seen q) → HasAllOthers g.seen g.runs old → Adds (IsUserIn g path) (IsAmong old) (IsAmong new) → HasAllOthers later g.runs new
+  pub seen_moved : ((q : Names) → (q ≡ path → ⊥) → finite.get later q ≡ finite.get g.seen q) → HasAllOthers g.seen g.runs old → AddsAtLeast (IsUserIn g path) (IsAmong old) (IsAmong new) → HasAllOthers later g.runs new
   seen_moved elsewhere all added number run here other = elim other [ inl asks ↦ asked asks | inr wrote ↦ written wrote ]
     where
       asked : AskedOther later run.asks → IsAmong new number
       asked (q, given, in_it, differs) = either (eq_by_cmp by_names q path) refl
         where
           either : (b : Bool) → eq_by_cmp by_names q path ≡ b → IsAmong new number
-          either true e = (added number).1 (inr (inl (run, given, here, subst (λ (p : Names). Contains run.asks (p, given)) (same_path q path e) in_it)))
-          either false e = (added number).1 (inl (all number run here (inl (q, given, in_it, λ is. differs (is ∙ sym (elsewhere q (other_path q path e)))))))
+          either true e = added number (inr (inl (run, given, here, subst (λ (p : Names). Contains run.asks (p, given)) (same_path q path e) in_it)))
+          either false e = added number (inl (all number run here (inl (q, given, in_it, λ is. differs (is ∙ sym (elsewhere q (other_path q path e)))))))
 
       written : WroteOther later run.writes → IsAmong new number
       written (q, given, in_it, differs) = either (eq_by_cmp by_names q path) refl
         where
           either : (b : Bool) → eq_by_cmp by_names q path ≡ b → IsAmong new number
-          either true e = (added number).1 (inr (inr (run, given, here, subst (λ (p : Names). Contains run.writes (p, given)) (same_path q path e) in_it)))
-          either false e = (added number).1 (inl (all number run here (inr (q, given, in_it, λ is. differs (is ∙ sym (elsewhere q (other_path q path e)))))))
+          either true e = added number (inr (inr (run, given, here, subst (λ (p : Names). Contains run.writes (p, given)) (same_path q path e) in_it)))
+          either false e = added number (inl (all number run here (inr (q, given, in_it, λ is. differs (is ∙ sym (elsewhere q (other_path q path e)))))))
 
 -- ---- a record goes, or comes
 

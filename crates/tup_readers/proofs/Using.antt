@@ -70,17 +70,11 @@ module _ (path : Names) where
     uses_so : (way : Way) → is_user way g path number ≡ true → IsUserBy way g path number
     uses_so ways.Asks e = asked_in (finite.get g.runs number) e
     uses_so ways.Writes e = wrote_in (finite.get g.runs number) e
-    uses_so ways.Either e = elim (either_of (asks_it path (finite.get g.runs number)) (wrote_it path (finite.get g.runs number)) e) [
-      | inl asked ↦ inl (asked_in (finite.get g.runs number) asked)
-      | inr written ↦ inr (wrote_in (finite.get g.runs number) written)
-    ]
     uses_so ways.Names e = named_in (slice_get g.rules number) e
 
     so_uses : (way : Way) → IsUserBy way g path number → is_user way g path number ≡ true
     so_uses ways.Asks asked = asks asked
     so_uses ways.Writes written = wrote written
-    so_uses ways.Either (inl asked) = or_left (asks_it path (finite.get g.runs number)) (wrote_it path (finite.get g.runs number)) (asks asked)
-    so_uses ways.Either (inr written) = or_right (asks_it path (finite.get g.runs number)) (wrote_it path (finite.get g.runs number)) (wrote written)
     so_uses ways.Names named = names named
 
 -- those of some numbers that pass the test use the path so

@@ -9,7 +9,7 @@ use Rattle.tup_rule.specs.declared.rule.Rule.{Rule}
 use Rattle.tup_record.specs.declared.run.RunRecord.{RunRecord}
 use Rattle.tup_graph.specs.Above.{HasAsked}
 use Rattle.tup_graph.specs.Graph.{GraphState}
-use Rattle.tup_readers.specs.Index.{HasNamed, HasWritten, IsUserIn}
+use Rattle.tup_readers.specs.Index.{HasNamed, HasWritten}
 use Rattle.tup_readers.specs.declared.users.Way.{Way}
 use Rattle.tup_readers.specs.declared.users.Way.TheVariants as ways
 
@@ -17,7 +17,6 @@ use Rattle.tup_readers.specs.declared.users.Way.TheVariants as ways
 abbrev pub IsUserBy : Way → GraphState → Names → ℕ → Type 0
 IsUserBy ways.Asks g path number = HasAsked g number path
 IsUserBy ways.Writes g path number = HasWritten g number path
-IsUserBy ways.Either g path number = IsUserIn g path number
 IsUserBy ways.Names g path number = HasNamed g number path
 
 -- whether a path is among those that a record tells of
@@ -43,5 +42,4 @@ names_it path None = false
 abbrev pub is_user : Way → GraphState → Names → ℕ → Bool
 is_user ways.Asks g path number = asks_it path (finite.get g.runs number)
 is_user ways.Writes g path number = wrote_it path (finite.get g.runs number)
-is_user ways.Either g path number = asks_it path (finite.get g.runs number) || wrote_it path (finite.get g.runs number)
 is_user ways.Names g path number = names_it path (slice_get g.rules number)

@@ -123,6 +123,17 @@ impl Indexed {
         Ok(users_among(alloc, &self.nodes, &near, path, Way::Names)?)
     }
 
+    /// Rules in ascending order. Those that declare a path or make it are among them; none is looked into.
+    pub fn near_namers_of(&self, alloc: Global, path: &Path) -> Result<Vec<u32>, GraphFault>
+        ensures namers { IfOk result (λ numbers. (number : ℕ)
+            → HasNamed self.now number path.now → Contains numbers.items number) }
+        ensures ascending { IfOk result (λ numbers. IsStrictlySortedBy nat_cmp numbers.items) }
+        ensures memory { IfErr result (λ fault. fault ≡ GraphFault.Memory) }
+    {
+        let near = self.prints.namers(alloc, path)?;
+        Ok(near)
+    }
+
     /// The folders whose readings asked a question, in the order of paths. It goes through all readings.
     pub fn asked_by(&self, alloc: Global, question: &Question) -> Result<Vec<Path>, GraphFault>
         ensures folders { IfOk result (λ dirs. (dir : Names)

@@ -3,14 +3,14 @@ ghost use Rattle.std.specs.Prelude.{◌≡◌, Contains, IfOk, OnOk};
 ghost use Rattle.std.specs.Bool.{Decides};
 ghost use Rattle.std.specs.FinMap as finite;
 ghost use Rattle.tup_graph.specs.Edits.{edited, without};
+ghost use Rattle.tup_graph.specs.Graph.{GraphState};
 ghost use Rattle.tup_graph.specs.Opening.{put as put_of};
 ghost use Rattle.tup_graph.specs.Prints.{HasPrints};
-ghost use Rattle.tup_readers.specs.Changes.{Adds, Takes};
+ghost use Rattle.tup_readers.specs.Changes.{Adds, AddsAtLeast, Takes};
 ghost use Rattle.tup_readers.specs.Index.{IsUserIn};
 ghost use Rattle.tup_readers.specs.Suspects.{AreSuspects, AskedOther, IsAmong, TellsOther, WroteOther};
 
 use crate::seen::SeenFiles;
-use crate::users::{Way, users_among};
 use std::alloc::{AllocError, Global};
 use std::collections::BTreeSet;
 use tup_graph::{Edit, Nodes, Prints};
@@ -81,7 +81,7 @@ impl Suspects {
             (put_of nodes.now found.now).runs self.new) }
     {
         match found {
-            Record::Seen { path, .. } => self.add_users(alloc, nodes, prints, path),
+            Record::Seen { path, .. } => self.add_users(alloc, prints, path),
             Record::Run { number, run } => self.renew(alloc, nodes, *number, run),
             _ => Ok(()),
         }
@@ -101,7 +101,7 @@ impl Suspects {
             (without nodes.now gone.now).runs self.new) }
     {
         match gone {
-            Record::Seen { path, .. } => self.add_users(alloc, nodes, prints, path),
+            Record::Seen { path, .. } => self.add_users(alloc, prints, path),
             Record::Run { number, .. } => {
                 self.acquit(nodes, *number);
                 Ok(())
@@ -152,21 +152,15 @@ impl Suspects {
         Ok(())
     }
 
-    /// Adds the rules whose records ask or wrote a path.
-    fn add_users(
-        &mut self,
-        alloc: Global,
-        nodes: &Nodes,
-        prints: &Prints,
-        path: &Path,
-    ) -> Result<(), AllocError>
-        requires { HasPrints nodes.now prints.now }
-        ensures { OnOk result (Adds (IsUserIn nodes.now path.now)
+    /// Adds the rules beside the print of a path: those whose records ask or wrote it are among them. No record is looked into, as
+    /// one that asks thousands of paths would be for each of these that is seen otherwise.
+    fn add_users(&mut self, alloc: Global, prints: &Prints, path: &Path) -> Result<(), AllocError>
+        ensures { (g : GraphState) → HasPrints g prints.now
+            → OnOk result (AddsAtLeast (IsUserIn g path.now)
             (IsAmong self.old.numbers) (IsAmong self.new.numbers)) }
     {
         let near = prints.users(alloc, path)?;
-        let users = users_among(alloc, nodes, &near, path, Way::Either)?;
-        self.add_all(&users)
+        self.add_all(&near)
     }
 
     /// Adds some rules.

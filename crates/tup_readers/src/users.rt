@@ -19,8 +19,6 @@ pub(crate) enum Way {
     Asks,
     /// The record wrote it.
     Writes,
-    /// The record asks it, or wrote it.
-    Either,
     /// The rule declares it, or makes it.
     Names,
 }
@@ -69,7 +67,6 @@ fn uses(nodes: &Nodes, number: u32, path: &Path, way: Way) -> bool
     match way {
         Way::Asks => asks(nodes.run_of(number), path),
         Way::Writes => wrote(nodes.run_of(number), path),
-        Way::Either => { asks(nodes.run_of(number), path) || wrote(nodes.run_of(number), path) }
         Way::Names => names(nodes.rules().get(number as usize), path),
     }
 }

@@ -7,4 +7,4 @@ use Rattle.tup_board.proofs.access.is_output.Goals as goal
 pub one_writes-requires : goal.one_writes-requires
 one_writes-requires c = λ at rule here written.
     subst (λ (l : List ℕ). Contains l at) (sym c.deref.ensures.value)
-    ((c.in-Ok.ensures.namers at).1 (rule, ap (λ (rules : List Rule). slice_get rules at) (sym (c.rules.ensures ∙ ap (λ (g : GraphState). g.rules) c.nodes.ensures)) ∙ here, inr written))
+    (c.in-Ok.ensures.namers at (rule, ap (λ (rules : List Rule). slice_get rules at) (sym (c.rules.ensures ∙ ap (λ (g : GraphState). g.rules) c.nodes.ensures)) ∙ here, inr written))

@@ -14,4 +14,4 @@ returns-in-Seen c =
     subst (λ (r : Record). OnOk c.add_users.result (AreSuspects (without g r).seen (without g r).runs c.add_users.new.self)) (sym c.in-Seen.is)
     (on_ok_weaker c.add_users.result
     (seen_moved g (finite.remove g.seen c.in-Seen.path) c.in-Seen.path c.args.self.now.numbers c.add_users.new.self.numbers
-    (gone_elsewhere g.seen c.in-Seen.path) c.requires.suspects) c.add_users.ensures)
+    (gone_elsewhere g.seen c.in-Seen.path) c.requires.suspects) (c.add_users.ensures g c.requires.prints))

@@ -15,7 +15,7 @@ returns-in-Seen c =
     subst (λ (r : Record). OnOk c.add_users.result (AreSuspects (put g r).seen (put g r).runs c.add_users.new.self)) (sym c.in-Seen.is)
     (on_ok_weaker c.add_users.result
     (seen_moved g (finite.insert g.seen c.in-Seen.path stamp) c.in-Seen.path c.args.self.now.numbers c.add_users.new.self.numbers
-    (put_elsewhere g.seen c.in-Seen.path stamp) c.requires.suspects) c.add_users.ensures)
+    (put_elsewhere g.seen c.in-Seen.path stamp) c.requires.suspects) (c.add_users.ensures g c.requires.prints))
 
 pub returns-in-Run : goal.returns-in-Run
 returns-in-Run c =
