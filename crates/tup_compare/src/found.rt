@@ -23,7 +23,7 @@ use tup_path::{ByPath, Bytes, Files, Path, Paths};
 use tup_project::read_all;
 use tup_promise::SourcesFault;
 use tup_rule::Rules;
-use tup_scan::MAX_FILES;
+use tup_scan::has_room;
 use tup_site::{Site, SiteFailed};
 
 /// What a site holds.
@@ -51,7 +51,7 @@ impl Found {
         ensures counted { HandsOn Outside (S.faults site.old) (S.faults site.new) result }
     {
         let files = site.list(alloc)?;
-        few(&files)?;
+        few(site, &files)?;
         let apart = path_set(alloc, owned.as_slice())?;
         let beside = paths_beside(alloc, files.as_slice(), &apart)?;
         let sources = contents(alloc, site, beside.as_slice())?;
@@ -73,13 +73,13 @@ impl Found {
     }
 }
 
-/// Whether there are no more files than a project may have.
-fn few(files: &Paths) -> Result<(), Unread>
-    ensures few { OnOk result (length files.now ≤ 65536) }
+/// Whether there are no more files than the site may have.
+fn few<S: Site>(site: &S, files: &Paths) -> Result<(), Unread>
+    ensures few { IsTrue S.tells → OnOk result (length files.now ≤ 65536) }
     ensures many { IfErr result (IsTooMany (length files.now)) }
 {
     let count = files.len() as u64;
-    if count > MAX_FILES {
+    if !has_room(site, count) {
         return Err(Unread::Sources(SourcesFault::TooManyFiles(count)));
     }
     Ok(())

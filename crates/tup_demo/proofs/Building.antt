@@ -23,7 +23,7 @@ told found = elim found as (λ _. Answer) [ Some content ↦ Holds content | Non
 
 -- what becomes of its command once it was told that
 abbrev goes_on : Option Content → Judged
-goes_on found = follow mini_next demo_rules demo_rule demo_tree 4095 ((codes "a", told found) ∷ [])
+goes_on found = follow mini_next demo_rules demo_rule demo_tree 65535 ((codes "a", told found) ∷ [])
 
 asks_once : verdict mini_next demo_rules demo_rule demo_tree ≡ goes_on (finite.get demo_tree (codes "a" ∷ []))
 unfolding verdict follow mini_next

@@ -2,11 +2,13 @@
 use crate::steady::{MAX_STORE_BYTES, SteadySite};
 use std::alloc::Global;
 use tup_path::{Bytes, Path, Paths};
-use tup_site::{Site, SiteFailed};
+use tup_site::{Limits, Site, SiteFailed};
+use tup_stamp::Stamp;
 
 impl Site for SteadySite {
-    ghost use Rattle.std.specs.Prelude.{true};
-    ghost use Rattle.tup_site.specs.Laws.{is_known_law, knows_tree_law, present_law, earlier_law, leaves_tree_law, leaves_known_law};
+    ghost use Rattle.std.specs.Prelude.{true, refl};
+    ghost use Rattle.tup_site.specs.Limits.{least};
+    ghost use Rattle.tup_site.specs.Laws.{least_law, is_known_law, knows_tree_law, present_law, earlier_law, leaves_tree_law, leaves_known_law};
     ghost use Rattle.tup_demo.specs.Steady.{world_in, known_in, moment_of, left_since, faults_of};
 
     ghost tells = { true };
@@ -20,6 +22,12 @@ impl Site for SteadySite {
     ghost left_since = { left_since };
 
     ghost faults = { faults_of };
+
+    ghost limits = { least };
+
+    ghost are_limits = { least_law };
+
+    ghost told_limits = { λ _. refl };
 
     ghost is_tree = { λ steady _. steady.site.is_tree };
 
@@ -37,6 +45,10 @@ impl Site for SteadySite {
 
     fn list(&mut self, alloc: Global) -> Result<Paths, SiteFailed> {
         self.site.list(alloc)
+    }
+
+    fn noted(&mut self, alloc: Global, path: &Path) -> Result<Option<Stamp>, SiteFailed> {
+        self.site.noted(alloc, path)
     }
 
     fn get(&mut self, alloc: Global, path: &Path) -> Result<Option<Bytes>, SiteFailed> {
@@ -85,5 +97,9 @@ impl Site for SteadySite {
 
     fn faults(&self) -> u64 {
         0
+    }
+
+    fn limits(&self) -> Limits {
+        self.site.limits()
     }
 }

@@ -8,7 +8,7 @@ use tup_rule::GroupRef;
 /// Why the sources of a site ask for no rules.
 #[derive(Debug, Drop, Error)]
 pub enum SourcesFault {
-    /// The tree has so many files, more than 65,536; none was read.
+    /// The tree has so many files, more than the site may have; none was read.
     #[error("{0} files are too many")]
     TooManyFiles(u64),
     /// A file that says what to build has a fault: the tup.config of the top, or one that was read

@@ -20,7 +20,7 @@ pub enum RefreshFault {
     /// The site failed, and counted it.
     #[error("the file tree failed")]
     Site,
-    /// A source has so many bytes, more than 16,777,216.
+    /// A source has so many bytes, more than the site's limit.
     #[error("a file of {0} bytes is too large")]
     TooLarge(u64),
     /// There was no memory; nothing is known of the folders.

@@ -9,10 +9,10 @@ pub enum ScanFault {
     /// The site failed, and counted it.
     #[error("the file tree failed")]
     Site,
-    /// A file has so many bytes, more than 16,777,216.
+    /// A file has so many bytes, more than the site's limit.
     #[error("a file of {0} bytes is too large")]
     TooLarge(u64),
-    /// There are so many files, more than 65,536; none was read.
+    /// There are so many files, more than the site's limit; none was read.
     #[error("{0} files are too many")]
     TooManyFiles(u64),
     /// There was no memory.

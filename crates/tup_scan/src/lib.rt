@@ -6,10 +6,12 @@
 
 mod fault;
 mod pulse;
+mod room;
 mod scanning;
 mod seen;
 
 pub use fault::ScanFault;
 pub use pulse::{Pulse, Still};
-pub use scanning::{MAX_FILES, scan};
+pub use room::has_room;
+pub use scanning::scan;
 pub use seen::{Seen, Stamps};

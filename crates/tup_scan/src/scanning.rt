@@ -9,14 +9,12 @@ ghost use Rattle.tup_scan.specs.Seen.{IsSeen, AreStamped, AreFiles};
 
 use crate::fault::ScanFault;
 use crate::pulse::Pulse;
+use crate::room::has_room;
 use crate::seen::{Seen, Stamps};
 use std::alloc::{AllocError, Global};
 use tup_path::{Path, Text};
 use tup_site::Site;
 use tup_stamp::{Stamp, stamp_of};
-
-/// The most files that a project may have.
-pub const MAX_FILES: u64 = 65_536;
 
 /// What the tree of a site holds: the stamp of each file, in the order of paths, and the content of tup.config.
 ///
@@ -27,7 +25,7 @@ pub const MAX_FILES: u64 = 65_536;
 /// that is longer than a file may be. The site is as it was, whatever the answer.
 pub fn scan<S: Site, P: Pulse>(alloc: Global, site: &mut S, pulse: &P) -> Result<Seen, ScanFault>
     ensures seen { IsTrue S.tells → IfOk result (IsSeen (S.world site.old).tree) }
-    ensures few { IfOk result (λ seen. length seen.files ≤ 65536) }
+    ensures few { IfOk result (λ seen. length seen.files ≤ 1048576) }
     ensures within { IsTrue S.tells → IfOk result (λ seen. IsWithinLimits (S.world site.old).tree) }
 
     ensures above { IsAbove result }
@@ -41,7 +39,7 @@ pub fn scan<S: Site, P: Pulse>(alloc: Global, site: &mut S, pulse: &P) -> Result
 {
     let paths = site.list(alloc)?;
     let found = paths.len() as u64;
-    if found > MAX_FILES {
+    if !has_room(site, found) {
         return Err(ScanFault::TooManyFiles(found));
     }
     let files = stamps_of(alloc, site, paths.as_slice(), pulse)?;
@@ -57,11 +55,11 @@ fn stamps_of<S: Site, P: Pulse>(
     paths: &[Path],
     pulse: &P,
 ) -> Result<Stamps, ScanFault>
-    requires few { length paths.now ≤ 65536 }
+    requires few { length paths.now ≤ 1048576 }
     requires files { IsTrue S.tells → AreFiles (S.world site.old).tree paths.now }
     ensures paths { IsTrue S.tells → IfOk result (λ files. map (λ file. file.0) files ≡ paths.now) }
     ensures stamps { IsTrue S.tells → IfOk result (AreStamped (S.world site.old).tree) }
-    ensures few { IfOk result (λ files. length files ≤ 65536) }
+    ensures few { IfOk result (λ files. length files ≤ 1048576) }
     ensures small { IsTrue S.tells
         → OnOk result (All (IsSmallAt (S.world site.old).tree) paths.now) }
 

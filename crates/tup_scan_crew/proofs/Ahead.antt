@@ -28,14 +28,14 @@ paths_more all left rest path before after file first is adds so =
 
 -- its stamp is that of the file there
 pub stamped_more : (tree : Tree) (path : Names) (before after : List (Names × Stamp)) (file : File)
-    → file.path ≡ path → finite.get tree path ≡ Some file.content → after ≡ before ++ digested file ∷ []
+    → file.path ≡ path → option_map stamp (finite.get tree path) ≡ Some (digested file).1 → after ≡ before ++ digested file ∷ []
     → AreStamped tree before → AreStamped tree after
 stamped_more tree path before after file is found adds so =
     subst (AreStamped tree) (sym adds)
     (All-append (IsStamped tree) before (digested file ∷ []) so (All-cons (IsStamped tree) (digested file) [] one (All-nil (IsStamped tree))))
   where
     one : IsStamped tree (digested file)
-    one = ap (λ (p : Names). option_map stamp (finite.get tree p)) is ∙ ap (option_map stamp) found
+    one = ap (λ (p : Names). option_map stamp (finite.get tree p)) is ∙ found
 
 -- they are one more
 pub few_more : (place : ℕ) (before after : List (Names × Stamp)) (file : File) → after ≡ before ++ digested file ∷ []

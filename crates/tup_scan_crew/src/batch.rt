@@ -18,15 +18,26 @@ const MOST_BYTES: usize = 16_777_216;
 /// A batch of less bytes is digested in less time than threads take to start.
 const FEW_BYTES: usize = 262_144;
 
-/// A file that was read.
+/// A file that was read, or whose stamp the site told.
 #[derive(Drop)]
 pub(crate) struct File {
     pub(crate) path: Path,
     /// Its place in the list of all files.
     pub(crate) place: u32,
-    pub(crate) content: Bytes,
-    /// The stamp of the content, once it is digested.
+    /// What was read; of a file whose stamp the site told nothing was.
+    pub(crate) content: Option<Bytes>,
+    /// The stamp that the site told, or that of the content, once it is digested.
     pub(crate) stamp: Stamp,
+}
+
+impl File {
+    /// How many bytes were read.
+    fn bytes(&self) -> usize {
+        match &self.content {
+            Some(content) => content.as_slice().len(),
+            None => 0,
+        }
+    }
 }
 
 /// The stamps of files, and the files after these that were read and aren't digested yet.
@@ -50,7 +61,8 @@ impl Batch {
         }
     }
 
-    /// Adds a file that was read, and digests the batch where it is full then.
+    /// Adds a file, and digests the batch where it is full then. A stamp that the site told has to wait only for those
+    /// before it.
     pub(crate) fn add<W: Threads + Sync, P: Pulse>(
         &mut self,
         rt: &W,
@@ -61,7 +73,11 @@ impl Batch {
     ) -> Result<(), AllocError>
         ensures { OnOk result (stamps_so_far self.new ≡ stamps_so_far self.old ++ digested file ∷ []) }
     {
-        self.bytes = self.bytes.saturating_add(file.content.as_slice().len());
+        if file.content.is_none() && self.files.is_empty() {
+            self.stamps.push((file.path, file.stamp))?;
+            return Ok(());
+        }
+        self.bytes = self.bytes.saturating_add(file.bytes());
         self.files.push(file)?;
         if self.files.len() < MOST_FILES && self.bytes < MOST_BYTES {
             return Ok(());
@@ -128,12 +144,15 @@ fn digest_all<W: Threads + Sync, P: Pulse>(rt: &W, files: &mut [File], pulse: &P
     );
 }
 
-/// Digests one file, once it was told to the pulse.
+/// Digests one file, once it was told to the pulse. One whose stamp the site told stays as it is.
 fn digest_file<P: Pulse>(file: &mut File, pulse: &P)
     ensures { with_stamp file.new ≡ digested file.old }
 {
+    let Some(content) = &file.content else {
+        return;
+    };
     pulse.pass(file.place);
-    file.stamp = stamp_of(file.content.as_slice());
+    file.stamp = stamp_of(content.as_slice());
 }
 
 /// Adds the stamps of files to those that are there.

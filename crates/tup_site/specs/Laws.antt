@@ -6,6 +6,7 @@ use Rattle.std.specs.FinMap as finite
 use Rattle.tup_path.specs.Name.{Content}
 use Rattle.tup_path.specs.Tree.{Tree, IsTree}
 use Rattle.tup_site.specs.World.{World}
+use Rattle.tup_site.specs.Limits.{AreLimits, greatest, least}
 use Rattle.tup_site.specs.Known.{knows, IsKnown, KnowsTree, IsHere, Joins}
 use Rattle.tup_site.specs.State.{State, IsImage}
 use Rattle.tup_site.specs.History.{at_first, after_all, LeftSince}
@@ -43,6 +44,13 @@ left_now first changes t w le image = record {
 
 pub image_now : (first : State) (changes : List Change) (w : World) → LeftSince first changes (length changes) w → IsImage (after_all first changes) w
 image_now first changes w left = subst (λ (l : List Change). IsImage (after_all first l) w) (take_all left.moment changes left.since) left.image
+
+-- its limits are limits that a site may have, and so are those of a real disk
+pub least_law : AreLimits least
+least_law = record { least_files = omega arith; most_files = omega arith; least_bytes = omega arith; most_bytes = omega arith }
+
+pub greatest_law : AreLimits greatest
+greatest_law = record { least_files = omega arith; most_files = omega arith; least_bytes = omega arith; most_bytes = omega arith }
 
 -- what the site shows is what its list makes
 pub world_now : (site : MemSite) → world_in site ≡ (state_of site).world

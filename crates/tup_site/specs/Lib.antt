@@ -2,6 +2,8 @@ pub mod World
 pub mod Store
 pub mod Cause
 pub mod Known
+pub mod Limits
+pub mod Noted
 pub mod Crash
 pub mod Edit
 pub mod State

@@ -2,16 +2,13 @@
 use std::alloc::{AllocError, AllocFailed};
 use thiserror::Error;
 
-/// The most bytes that a file may have which is read.
-pub const MAX_FILE_BYTES: u64 = 16_777_216;
-
 /// Why a call of a site is refused.
 #[derive(Clone, Copy, Debug, PartialEq, Eq, Error)]
 pub enum SiteFailed {
     /// The file tree or the store failed; the site counts these.
     #[error("the file tree or the store failed")]
     Fault,
-    /// The file has so many bytes, more than `MAX_FILE_BYTES`; it wasn't read.
+    /// The file has so many bytes, more than the site's limit; it wasn't read.
     #[error("a file of {0} bytes is too large")]
     TooLarge(u64),
     /// There was no memory.

@@ -12,6 +12,7 @@ mod crash;
 mod fault;
 mod first;
 mod known;
+mod limits;
 mod memory;
 mod memory_calls;
 mod place;
@@ -21,7 +22,8 @@ mod tear;
 mod unsettled;
 
 pub use choice::{Changed, Choice, Deed};
-pub use fault::{MAX_FILE_BYTES, SiteFailed};
+pub use fault::SiteFailed;
+pub use limits::{Limits, MAX_DISK_FILE_BYTES, MAX_FILE_BYTES};
 pub use memory::MemSite;
 pub use refused::MemRefused;
 pub use site::Site;

@@ -1,19 +1,22 @@
 //! The calls of the site in memory.
-ghost use Rattle.std.specs.Prelude.{◌≡◌, ◌⊎◌, [], ◌∷◌, ◌++◌, ◌+◌, ◌≤◌, length, take, drop, true, IfOk, OnOk, OnErr, IsTrue};
+ghost use Rattle.std.specs.Prelude.{◌≡◌, ◌⊎◌, [], ◌∷◌, ◌++◌, ◌+◌, ◌≤◌, length, take, drop, true, refl, None, Ok, IfOk, OnOk, OnErr, IsTrue};
 ghost use Rattle.std.specs.FinMap as finite;
 ghost use Rattle.tup_site.specs.Store.{Holds};
 ghost use Rattle.tup_site.specs.Cause.{NeverTooLarge, OnlyLarge, NamesLength, IsSmall, IsPlace, SameBut};
+ghost use Rattle.tup_site.specs.Limits.{least};
 ghost use Rattle.tup_site.specs.Known.{MayJoin, Keeps};
 ghost use Rattle.tup_site.specs.Crash.{GoesOn, NoStep, FileStep, WriteStep, CutStep, PinsTree, PinsStore};
 ghost use Rattle.tup_site.specs.declared.fault.SiteFailed.TheVariants.{Fault, Memory};
 ghost use Rattle.tup_site.specs.declared.change.Change.TheVariants.{Put, Settled, Written, Cut, Synced};
 
 use crate::change::Change;
-use crate::fault::{MAX_FILE_BYTES, SiteFailed};
+use crate::fault::SiteFailed;
+use crate::limits::{Limits, MAX_FILE_BYTES};
 use crate::memory::MemSite;
 use crate::site::Site;
 use std::alloc::Global;
 use tup_path::{Bytes, Path, Paths};
+use tup_stamp::Stamp;
 
 // What the calls do that change a file or bytes, after they began.
 impl MemSite {
@@ -83,7 +86,7 @@ impl MemSite {
 
 impl Site for MemSite {
     ghost use Rattle.tup_site.specs.Memory.{tree_in, store_in, world_in, known_in, moment_of, left_since, changes_of, faults_of, fails_next, IsCounted, added, removal};
-    ghost use Rattle.tup_site.specs.Laws.{is_known_law, knows_tree_law, present_law, earlier_law, leaves_tree_law, leaves_known_law};
+    ghost use Rattle.tup_site.specs.Laws.{least_law, is_known_law, knows_tree_law, present_law, earlier_law, leaves_tree_law, leaves_known_law};
 
     ghost tells = { true };
 
@@ -96,6 +99,12 @@ impl Site for MemSite {
     ghost left_since = { left_since };
 
     ghost faults = { faults_of };
+
+    ghost limits = { least };
+
+    ghost are_limits = { least_law };
+
+    ghost told_limits = { λ _. refl };
 
     ghost is_tree = { λ site _. site.is_tree };
 
@@ -126,6 +135,14 @@ impl Site for MemSite {
             paths.push(path.clone()?)?;
         }
         Ok(paths)
+    }
+
+    // It is as cheap to read a file. This isn't counted as a call.
+    fn noted(&mut self, _alloc: Global, _path: &Path) -> Result<Option<Stamp>, SiteFailed>
+        ensures none { result ≡ Ok None }
+        ensures same { self.new ≡ self.old }
+    {
+        Ok(None)
     }
 
     fn get(&mut self, _alloc: Global, path: &Path) -> Result<Option<Bytes>, SiteFailed>
@@ -285,5 +302,9 @@ impl Site for MemSite {
         ensures { result ≡ faults_of self.now }
     {
         self.faults
+    }
+
+    fn limits(&self) -> Limits {
+        Limits::of_memory()
     }
 }

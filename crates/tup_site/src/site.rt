@@ -8,11 +8,16 @@ ghost use Rattle.tup_site.specs.Store.{Holds, IsTorn, IsCutOrNot};
 ghost use Rattle.tup_site.specs.Known.{IsKnown, KnowsTree, Keeps, Joins};
 ghost use Rattle.tup_site.specs.Crash.{GoesOn, NoStep, FileStep, WriteStep, CutStep, PinsTree, PinsStore};
 ghost use Rattle.tup_site.specs.Cause.{CountsFaults, NeverTooLarge, OnlyLarge, NamesLength, IsSmall, SameBut, IsPlace};
+ghost use Rattle.tup_site.specs.Limits.{AreLimits, IsWithin, OnlyOver, least};
+ghost use Rattle.tup_site.specs.Noted.{IsNotedAt};
 ghost use Rattle.tup_site.specs.declared.fault.SiteFailed.TheVariants.{Memory};
+ghost use Rattle.tup_site.specs.declared.limits.Limits.{Limits};
 
 use crate::fault::SiteFailed;
+use crate::limits::Limits;
 use std::alloc::Global;
 use tup_path::{Bytes, Path, Paths};
+use tup_stamp::Stamp;
 
 /// A tree of files, and beside it the store, one file of bytes: the world of the site.
 ///
@@ -44,6 +49,9 @@ pub trait Site: Drop {
     /// How often the outside has failed; it stands still at the last `u64`.
     ghost faults: { Self → ℕ };
 
+    /// How many files it may have, and how many bytes a file that it reads.
+    ghost limits: { Limits };
+
     /// The paths of all files, in the order of paths.
     fn list(&mut self, alloc: Global) -> Result<Paths, SiteFailed>
         ensures paths { IsTrue tells
@@ -54,12 +62,24 @@ pub trait Site: Drop {
         ensures cause { CountsFaults (faults self.old) (faults self.new) result }
         ensures never_too_large { NeverTooLarge result };
 
+    /// The stamp of a file, where the site knows it without reading the file. `None` says nothing:
+    /// the site doesn't know it, or no file is there.
+    fn noted(&mut self, alloc: Global, path: &Path) -> Result<Option<Stamp>, SiteFailed>
+        ensures noted { IsTrue tells → IfOk result (IsNotedAt (world self.old).tree path.now) }
+        ensures same { IsTrue tells → world self.new ≡ world self.old }
+        ensures crash { IsTrue tells → GoesOn moment left_since self.old self.new NoStep }
+        ensures known { IsTrue tells → known self.new ≡ known self.old }
+        ensures cause { CountsFaults (faults self.old) (faults self.new) result }
+        ensures never_too_large { NeverTooLarge result };
+
     /// The content of a file, or `None` where no file is: nothing, a folder, or a file above it.
-    /// A file of more than `MAX_FILE_BYTES` bytes is refused as `TooLarge` with its length.
+    /// A file of more bytes than the site's limit is refused as `TooLarge` with its length.
     fn get(&mut self, alloc: Global, path: &Path) -> Result<Option<Bytes>, SiteFailed>
         ensures content { IsTrue tells
             → IfOk result (λ content. content ≡ finite.get (world self.old).tree path.now) }
-        ensures small { IfOk result IsSmall }
+        ensures within { IfOk result (IsWithin limits) }
+        ensures small { IsTrue tells → IfOk result IsSmall }
+        ensures over { OnlyOver limits result }
         ensures too_large { OnlyLarge result }
         ensures length { IsTrue tells → NamesLength (world self.old).tree path.now result }
         ensures same { IsTrue tells → world self.new ≡ world self.old }
@@ -173,6 +193,16 @@ pub trait Site: Drop {
     /// How often the outside has failed.
     fn faults(&self) -> u64
         ensures { result ≡ faults self.now };
+
+    /// How many files it may have, and how many bytes a file that it reads.
+    fn limits(&self) -> Limits
+        ensures { result ≡ limits };
+
+    /// Each site allows what one in memory does, and none allows more than a real disk.
+    ghost are_limits: { AreLimits limits };
+
+    /// A site that tells its world allows just what one in memory does.
+    ghost told_limits: { IsTrue tells → limits ≡ least };
 
     /// What the site tells is a tree of files.
     ghost is_tree: { (site : Self) → IsTrue tells → IsTree (world site).tree };

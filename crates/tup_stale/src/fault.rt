@@ -21,7 +21,7 @@ pub enum StaleFault {
     /// The site failed, and counted it.
     #[error("the file tree or the store failed")]
     Site,
-    /// A file that was looked at has so many bytes, more than 16,777,216. Nothing was changed.
+    /// A file that was looked at has so many bytes, more than the site's limit. Nothing was changed.
     #[error("a file of {0} bytes is too large")]
     TooLarge(u64),
     /// The store has no room for what is to be written: either nothing was changed, or the files are gone and their paths

@@ -1,6 +1,7 @@
 -- How an order ends whose update came out so: what is promised of the update holds of the status that tells of it.
 use Rattle.std.proofs.Common.{◌≡◌, inl, inr, ℕ, zero, suc, Bool, true, false, List, [], ◌∷◌, Option, None, Some, refl, sym, ap, subst, ◌∙◌, append-nil, length, map, arith}
 use Rattle.std.specs.List.{slice_get}
+use Rattle.std.specs.Prelude.{nat_lt, if◌then◌else◌}
 use Rattle.std.proofs.lemmas.Bool.{false≢true}
 use Rattle.std.proofs.lemmas.List.{length-map}
 use Rattle.std.proofs.lemmas.List.Sorted.{IsPermutation-refl}
@@ -23,19 +24,28 @@ use Rattle.tup_promise.specs.declared.stop.Stop.TheVariants.{NoStore, BadStore a
 use Rattle.tup_top.specs.Lines.{lines}
 use Rattle.tup_top.specs.Promise.{Counts, AreSteady, OneFailedAtMost, HasAloneCause, HasCountedCause, HasCrewCause, HasSharedCause, Logs, OpensStore}
 use Rattle.tup_top.specs.Printed.{IsDone, Ends, EndsTold, Prints, Told, PrintsUpdate, SaysWhyOf}
-use Rattle.tup_top.specs.Status.{status_of, status_of_sources, IfCame, after_sink_fault}
+use Rattle.tup_top.specs.Status.{most, most_on_disk, told_limit, IsLimit, status_of, status_of_sources, IfCame, after_sink_fault}
 use Rattle.tup_top.specs.declared.status.Status.{Status}
 use Rattle.tup_top.specs.declared.status.Status.TheVariants.{Done, Command, IllegalRead, IllegalWrite, Unwritten, TooManyReads, Usage, NotInit, AlreadyInit, BadStore, Parse, CircularDirs, CircularCommands, NoSuchGroup, UserFile, SiteFault, RunFault, SinkFault, TellFault, Limit, Memory, Differs}
+use Rattle.tup_top.specs.declared.status.What.{What}
 use Rattle.tup_top.specs.declared.status.What.TheVariants.{Files, FileSize, Commands, Links, StoreSize}
+
+-- what is told as a limit is one
+limit_is : (what : What) (count : ℕ) → IsLimit what (told_limit what count)
+limit_is what count = by (nat_lt (most_on_disk what) count)
+  where
+    by : (b : Bool) → IsLimit what (if b then most_on_disk what else most what)
+    by true = inr refl
+    by false = inl refl
 
 -- what is promised of sources that ask for no rules is promised of the status that tells why
 came_of_sources : (P : Option Stop → Type 0) (fault : SourcesFault) → PassesLimit fault → P (Some (Sources fault)) → IfCame (status_of_sources fault) P
-came_of_sources P (sources.TooManyFiles count) passes p = (count, passes, p)
+came_of_sources P (sources.TooManyFiles count) passes p = (count, record { many = passes; told = refl }, p)
 came_of_sources P (sources.Parse fault) passes p = p
 came_of_sources P (sources.CircularDirs cycle) passes p = p
-came_of_sources P (sources.TooManyCommands count) passes p = (count, passes, p)
+came_of_sources P (sources.TooManyCommands count) passes p = (count, record { many = passes; told = refl }, p)
 came_of_sources P (sources.NoSuchGroup group) passes p = p
-came_of_sources P (sources.TooManyLinks count) passes p = (count, passes, p)
+came_of_sources P (sources.TooManyLinks count) passes p = (count, record { many = passes; told = refl }, p)
 came_of_sources P (sources.CircularCommands cycle) passes p = p
 
 sources_undone : (fault : SourcesFault) → IsDone (status_of_sources fault) → ⊥
@@ -77,7 +87,7 @@ came P before now log (Some (Bad rule ReadsTooOften)) cause p = p
 came P before now log (Some Run) cause p = p
 came P before now log (Some Full) cause p = p
 came P before now log (Some (Outside Fault)) cause p = p
-came P before now log (Some (Outside (TooLarge count))) cause p = (count, cause, p)
+came P before now log (Some (Outside (TooLarge count))) cause p = (count, record { many = cause; told = refl }, p)
 came P before now log (Some (Outside NoMemory)) cause p = p
 
 -- a promise of what an update came to grows to a larger one
@@ -149,12 +159,12 @@ answered_told P before now old new log stopped status answer is (inr (e, done)) 
 
 -- where nothing was done nothing failed, and a limit tells its number
 counted_of_sources : (before now : Counts) (fault : SourcesFault) → AreSteady before now → HasCountedCause before now (status_of_sources fault)
-counted_of_sources before now (sources.TooManyFiles number) steady = (steady, refl)
+counted_of_sources before now (sources.TooManyFiles number) steady = (steady, limit_is Files number)
 counted_of_sources before now (sources.Parse fault) steady = steady
 counted_of_sources before now (sources.CircularDirs cycle) steady = steady
-counted_of_sources before now (sources.TooManyCommands number) steady = (steady, refl)
+counted_of_sources before now (sources.TooManyCommands number) steady = (steady, limit_is Commands number)
 counted_of_sources before now (sources.NoSuchGroup group) steady = steady
-counted_of_sources before now (sources.TooManyLinks number) steady = (steady, refl)
+counted_of_sources before now (sources.TooManyLinks number) steady = (steady, limit_is Links number)
 counted_of_sources before now (sources.CircularCommands cycle) steady = steady
 
 -- what a site, one runner and a sink count
@@ -188,9 +198,9 @@ module _ (site_before site_now run_before run_now sink_before sink_now : ℕ) wh
   counted_of_stop log (Some (Bad rule (LeavesUnwritten path))) sink cause run = steady cause.0 run
   counted_of_stop log (Some (Bad rule ReadsTooOften)) sink cause run = steady cause.0 run
   counted_of_stop log (Some Run) sink cause run = (cause, one_rose run)
-  counted_of_stop log (Some Full) sink cause run = (steady cause run, refl)
+  counted_of_stop log (Some Full) sink cause run = (steady cause run, inl refl)
   counted_of_stop log (Some (Outside Fault)) sink cause run = (cause, ap (λ (n : ℕ). n ∷ []) run)
-  counted_of_stop log (Some (Outside (TooLarge number))) sink cause run = (steady cause.0 run, refl)
+  counted_of_stop log (Some (Outside (TooLarge number))) sink cause run = (steady cause.0 run, limit_is FileSize number)
   counted_of_stop log (Some (Outside NoMemory)) sink cause run = inl (steady cause run)
 
   -- whatever it came to, one failed at most
@@ -258,12 +268,12 @@ told_counted site_before site_now run_before run_now sink_before sink_now log st
 -- ---- counts of a crew
 
 shared_of_sources : (before now : Counts) (fault : SourcesFault) → AreSteady before now → HasSharedCause before now (status_of_sources fault)
-shared_of_sources before now (sources.TooManyFiles number) steady = refl
+shared_of_sources before now (sources.TooManyFiles number) steady = limit_is Files number
 shared_of_sources before now (sources.Parse fault) steady = steady
 shared_of_sources before now (sources.CircularDirs cycle) steady = steady
-shared_of_sources before now (sources.TooManyCommands number) steady = refl
+shared_of_sources before now (sources.TooManyCommands number) steady = limit_is Commands number
 shared_of_sources before now (sources.NoSuchGroup group) steady = steady
-shared_of_sources before now (sources.TooManyLinks number) steady = refl
+shared_of_sources before now (sources.TooManyLinks number) steady = limit_is Links number
 shared_of_sources before now (sources.CircularCommands cycle) steady = steady
 
 -- the causes of an update by one runner are those of a crew of one
@@ -309,9 +319,9 @@ module _ (site_before site_now : ℕ) (runs_before runs_now : List ℕ) (sink_be
   shared_of_stop log (Some (Bad rule (LeavesUnwritten path))) sink cause run = tt
   shared_of_stop log (Some (Bad rule ReadsTooOften)) sink cause run = tt
   shared_of_stop log (Some Run) sink cause run = run
-  shared_of_stop log (Some Full) sink cause run = refl
+  shared_of_stop log (Some Full) sink cause run = inl refl
   shared_of_stop log (Some (Outside Fault)) sink cause run = cause
-  shared_of_stop log (Some (Outside (TooLarge number))) sink cause run = refl
+  shared_of_stop log (Some (Outside (TooLarge number))) sink cause run = limit_is FileSize number
   shared_of_stop log (Some (Outside NoMemory)) sink cause run = tt
 
   shared_counts : (log : Log) (stopped : Option Stop) (status answer : Status) → status ≡ status_of log stopped → Ends sink_before sink_now status answer →

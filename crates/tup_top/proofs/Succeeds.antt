@@ -94,8 +94,8 @@ module _ (old new : World) (g : GraphState) (stored : IsGraphIn old.store g) (ca
   finds_so kept before now RunFault here finds counted told fine = absurd finds.stops
   finds_so kept before now SinkFault here finds counted told fine = not_rose before.sink now.sink fine.sink fine.sink_counts counted.1
   finds_so kept before now TellFault here finds counted told fine = told refl
-  finds_so kept before now (Limit FileSize number) here (count, passed, finds) counted told fine = can.read.small count passed (finds.blamed here)
-  finds_so kept before now (Limit Files number) here (count, passed, finds) counted told fine = too_many count (length (finite.keys old.tree)) passed (finds.blamed here) can.read.few
+  finds_so kept before now (Limit FileSize number) here (count, passed, finds) counted told fine = can.read.small count passed.many (finds.blamed here)
+  finds_so kept before now (Limit Files number) here (count, passed, finds) counted told fine = too_many count (length (finite.keys old.tree)) passed.many (finds.blamed here) can.read.few
   finds_so kept before now (Limit Commands number) here (count, passed, finds) counted told fine = no_fault old can.read.asks (sources.TooManyCommands count) (finds.blamed here)
   finds_so kept before now (Limit Links number) here (count, passed, finds) counted told fine = no_fault old can.read.asks (sources.TooManyLinks count) (finds.blamed here)
   finds_so kept before now (Limit StoreSize number) here finds counted told fine = can.room (finds.full here)
@@ -135,8 +135,8 @@ module _ {S : Type 0} (site : Site S) (next : Next) (old new : S) (g : GraphStat
   updates_so ran before now RunFault opens blamed counted told fine = no_runner_rose before now fine counted
   updates_so ran before now SinkFault opens blamed counted told fine = not_rose before.sink now.sink fine.sink fine.sink_counts counted.1
   updates_so ran before now TellFault opens blamed counted told fine = told refl
-  updates_so ran before now (Limit FileSize number) opens (count, passed, large) counted told fine = absurd (no_large count passed large)
-  updates_so ran before now (Limit Files number) opens (count, passed, many) counted told fine = absurd (too_many count (length (finite.keys first.tree)) passed many can.read.few)
+  updates_so ran before now (Limit FileSize number) opens (count, passed, large) counted told fine = absurd (no_large count passed.many large)
+  updates_so ran before now (Limit Files number) opens (count, passed, many) counted told fine = absurd (too_many count (length (finite.keys first.tree)) passed.many many can.read.few)
   updates_so ran before now (Limit Commands number) opens (count, passed, fault) counted told fine = absurd (no_fault first can.read.asks (sources.TooManyCommands count) fault)
   updates_so ran before now (Limit Links number) opens (count, passed, fault) counted told fine = absurd (no_fault first can.read.asks (sources.TooManyLinks count) fault)
   updates_so ran before now (Limit StoreSize number) opens blamed counted told fine = refl

@@ -27,7 +27,7 @@ use Rattle.tup_promise.specs.Unopened.{Unopened}
 use Rattle.tup_promise.specs.declared.log.Log.{Log}
 use Rattle.tup_promise.specs.declared.stop.Stop.{Stop}
 use Rattle.tup_promise.specs.declared.stop.Stop.TheVariants.{Outside}
-use Rattle.tup_top.specs.Status.{most, IfCame, IfCompared, IfBegan}
+use Rattle.tup_top.specs.Status.{IsLimit, IfCame, IfCompared, IfBegan}
 use Rattle.tup_top.specs.Order.{Wanted, IsVerify, IsInit, used_of}
 use Rattle.tup_top.specs.declared.order.Order.TheVariants.{Init, Upd, Todo, Verify, Demo}
 use Rattle.tup_top.specs.declared.status.Status.{Status}
@@ -157,7 +157,7 @@ HasCountedCause before now (Done read ran removed) = AreSteady before now × (no
 HasCountedCause before now SinkFault = AreSteady before now × Rose before.sink now.sink
 HasCountedCause before now SiteFault = OnlySiteFailed before now
 HasCountedCause before now RunFault = OnlyRunnerFailed before now
-HasCountedCause before now (Limit what number) = AreSteady before now × (number ≡ most what)
+HasCountedCause before now (Limit what number) = AreSteady before now × IsLimit what number
 HasCountedCause before now (Usage place) = ⊥
 HasCountedCause before now AlreadyInit = ⊥
 HasCountedCause before now (Differs path) = ⊥
@@ -173,7 +173,7 @@ HasSharedCause before now (Done read ran removed) = AreSteady before now × (now
 HasSharedCause before now SinkFault = AreSteady before now × Rose before.sink now.sink
 HasSharedCause before now SiteFault = Rose before.site now.site
 HasSharedCause before now RunFault = OneRose before.runners now.runners
-HasSharedCause before now (Limit what number) = number ≡ most what
+HasSharedCause before now (Limit what number) = IsLimit what number
 HasSharedCause before now (Command rule status) = ⊤
 HasSharedCause before now (IllegalRead rule text) = ⊤
 HasSharedCause before now (IllegalWrite rule text) = ⊤
@@ -206,7 +206,7 @@ HasComparedCause before now other = HasCountedCause before now other
 abbrev pub HasDemoCause : ℕ → ℕ → Status → Type 0
 HasDemoCause before now (Done read ran removed) = now ≡ before
 HasDemoCause before now SinkFault = Rose before now
-HasDemoCause before now (Limit what number) = number ≡ most what
+HasDemoCause before now (Limit what number) = IsLimit what number
 HasDemoCause before now Memory = ⊤
 HasDemoCause before now other = ⊥
 

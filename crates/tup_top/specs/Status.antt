@@ -1,7 +1,8 @@
 -- How an order ended: the exit numbers (own), what stops an update as a status, and what a status says of an update.
-use Rattle.std.specs.Prelude.{ℕ, Bool, true, false, ◌-◌, ◌^◌, ◌<◌, [], length, min, Option, None, Some, Result, Ok, Err}
+use Rattle.std.specs.Prelude.{◌≡◌, ◌⊎◌, ℕ, Bool, true, false, ◌-◌, ◌^◌, ◌<◌, nat_lt, if◌then◌else◌, [], length, min, Option, None, Some, Result, Ok, Err}
 use Rattle.tup_stamp.specs.declared.Stamp.{Stamp}
 use Rattle.tup_site.specs.Cause.{most_bytes}
+use Rattle.tup_site.specs.Limits.{greatest}
 use Rattle.tup_site.specs.declared.fault.SiteFailed.{SiteFailed}
 use Rattle.tup_site.specs.declared.fault.SiteFailed.TheVariants.{Fault, TooLarge, Memory as NoMemory}
 use Rattle.tup_rule.specs.declared.rule.RuleName.{RuleName}
@@ -61,6 +62,24 @@ most Commands = 65536
 most Links = 4194304
 most StoreSize = 268435456
 
+-- how many of these there may be on a real disk: more files, and larger ones
+abbrev pub most_on_disk : What → ℕ
+most_on_disk Files = greatest.files
+most_on_disk FileSize = greatest.bytes
+most_on_disk other = most other
+
+-- of two limits the greater one where so many pass it, else the other
+abbrev pub passed_limit : ℕ → ℕ → ℕ → ℕ
+passed_limit count less greater = if nat_lt greater count then greater else less
+
+-- the limit that is told where there are so many: the greatest that they pass
+abbrev pub told_limit : What → ℕ → ℕ
+told_limit what count = passed_limit count (most what) (most_on_disk what)
+
+-- a number that is told as a limit
+abbrev pub IsLimit : What → ℕ → Type 0
+IsLimit what number = (number ≡ most what) ⊎ (number ≡ most_on_disk what)
+
 -- the status of a rule that isn't Good
 abbrev pub status_of_bad : RuleName → Verdict → Status
 status_of_bad rule Good = Memory
@@ -72,18 +91,18 @@ status_of_bad rule ReadsTooOften = TooManyReads rule
 
 -- the status of sources that ask for no rules
 abbrev pub status_of_sources : SourcesFault → Status
-status_of_sources (sources.TooManyFiles count) = Limit Files (most Files)
+status_of_sources (sources.TooManyFiles count) = Limit Files (told_limit Files count)
 status_of_sources (sources.Parse fault) = Parse fault
 status_of_sources (sources.CircularDirs cycle) = CircularDirs cycle
-status_of_sources (sources.TooManyCommands count) = Limit Commands (most Commands)
+status_of_sources (sources.TooManyCommands count) = Limit Commands (told_limit Commands count)
 status_of_sources (sources.NoSuchGroup group) = NoSuchGroup group
-status_of_sources (sources.TooManyLinks count) = Limit Links (most Links)
+status_of_sources (sources.TooManyLinks count) = Limit Links (told_limit Links count)
 status_of_sources (sources.CircularCommands cycle) = CircularCommands cycle
 
 -- the status of an order that the outside stops
 abbrev pub status_of_outside : SiteFailed → Status
 status_of_outside Fault = SiteFault
-status_of_outside (TooLarge bytes) = Limit FileSize (most FileSize)
+status_of_outside (TooLarge bytes) = Limit FileSize (told_limit FileSize bytes)
 status_of_outside NoMemory = Memory
 
 -- the status of an order that was stopped
@@ -118,9 +137,14 @@ status_of_compared (Ok compared.Same) = Done 0 0 0
 status_of_compared (Ok (compared.Differs path)) = Differs path
 status_of_compared (Err stop) = status_of_stop stop
 
+-- so many are too many, and this number is told as their limit
+pub record PassesAt (what : What) (number count : ℕ) : Type 0 where
+  pub many : most what < count
+  pub told : number ≡ told_limit what count
+
 -- A promise of an update that stopped because so many of these are too many. Its status tells the limit, and not the count.
-abbrev pub Passed : What → (ℕ → Stop) → (Option Stop → Type 0) → Type 0
-Passed what stop promise = (count : ℕ) × (most what < count) × promise (Some (stop count))
+abbrev pub Passed : What → ℕ → (ℕ → Stop) → (Option Stop → Type 0) → Type 0
+Passed what number stop promise = (count : ℕ) × PassesAt what number count × promise (Some (stop count))
 
 -- A promise of what an update came to that is answered so: its end, or the reason for which it stopped. A file of the user's is
 -- told by its path alone. A word that can't stand is no answer of an update, nor is a difference, nor that a project was begun
@@ -143,10 +167,10 @@ IfCame (NoSuchGroup group) promise = promise (Some (Sources (sources.NoSuchGroup
 IfCame (UserFile path) promise = (written : Option Stamp) × (found : Stamp) × promise (Some (IsUsers path written found))
 IfCame SiteFault promise = promise (Some (Outside Fault))
 IfCame RunFault promise = promise (Some Run)
-IfCame (Limit Files number) promise = Passed Files (λ count. Sources (sources.TooManyFiles count)) promise
-IfCame (Limit FileSize number) promise = Passed FileSize (λ count. Outside (TooLarge count)) promise
-IfCame (Limit Commands number) promise = Passed Commands (λ count. Sources (sources.TooManyCommands count)) promise
-IfCame (Limit Links number) promise = Passed Links (λ count. Sources (sources.TooManyLinks count)) promise
+IfCame (Limit Files number) promise = Passed Files number (λ count. Sources (sources.TooManyFiles count)) promise
+IfCame (Limit FileSize number) promise = Passed FileSize number (λ count. Outside (TooLarge count)) promise
+IfCame (Limit Commands number) promise = Passed Commands number (λ count. Sources (sources.TooManyCommands count)) promise
+IfCame (Limit Links number) promise = Passed Links number (λ count. Sources (sources.TooManyLinks count)) promise
 IfCame (Limit StoreSize number) promise = promise (Some Full)
 IfCame Memory promise = promise (Some (Outside NoMemory))
 IfCame (Usage place) promise = ⊥

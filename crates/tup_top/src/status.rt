@@ -45,6 +45,31 @@ impl What {
             What::StoreSize => 1 << 28,
         }
     }
+
+    /// How many of these there may be on a real disk.
+    fn most_on_disk(self) -> u64
+        ensures { result ≡ specs.most_on_disk self }
+    {
+        match self {
+            What::Files => 1 << 20,
+            What::FileSize => 1 << 30,
+            What::Commands | What::Links | What::StoreSize => self.most(),
+        }
+    }
+
+    /// The limit that is told where there are so many: the greatest that they pass.
+    fn limit(self, count: u64) -> u64
+        ensures { result ≡ specs.told_limit self count }
+    {
+        passed_limit(count, self.most(), self.most_on_disk())
+    }
+}
+
+/// Of two limits the greater one if so many pass it, otherwise the other.
+fn passed_limit(count: u64, less: u64, greater: u64) -> u64
+    ensures { result ≡ specs.passed_limit count less greater }
+{
+    if count > greater { greater } else { less }
 }
 
 /// How an order ended.
@@ -199,7 +224,10 @@ pub(crate) fn status_of_stop(stop: Stop) -> Status
         Stop::UserFile { path, .. } => Status::UserFile { path },
         Stop::Bad(rule, verdict) => status_of_bad(rule, verdict),
         Stop::Run => Status::RunFault,
-        Stop::Full => over(What::StoreSize),
+        Stop::Full => Status::Limit {
+            what: What::StoreSize,
+            number: What::StoreSize.most(),
+        },
         Stop::Outside(failed) => status_of_outside(failed),
     }
 }
@@ -209,23 +237,23 @@ fn status_of_sources(fault: SourcesFault) -> Status
     ensures { result ≡ specs.status_of_sources fault }
 {
     match fault {
-        SourcesFault::TooManyFiles(_) => over(What::Files),
+        SourcesFault::TooManyFiles(count) => over(What::Files, count),
         SourcesFault::Parse(fault) => Status::Parse { fault },
         SourcesFault::CircularDirs(cycle) => Status::CircularDirs { cycle },
-        SourcesFault::TooManyCommands(_) => over(What::Commands),
+        SourcesFault::TooManyCommands(count) => over(What::Commands, count),
         SourcesFault::NoSuchGroup(group) => Status::NoSuchGroup { group },
-        SourcesFault::TooManyLinks(_) => over(What::Links),
+        SourcesFault::TooManyLinks(count) => over(What::Links, count),
         SourcesFault::CircularCommands(cycle) => Status::CircularCommands { cycle },
     }
 }
 
-/// There are too many of these: the limit is told, and not by how much it is passed.
-fn over(what: What) -> Status
-    ensures { result ≡ Limit what (specs.most what) }
+/// There are so many of these, too many: the limit is told, and not by how much it is passed.
+fn over(what: What, count: u64) -> Status
+    ensures { result ≡ Limit what (specs.told_limit what count) }
 {
     Status::Limit {
         what,
-        number: what.most(),
+        number: what.limit(count),
     }
 }
 
@@ -249,7 +277,7 @@ fn status_of_outside(failed: SiteFailed) -> Status
 {
     match failed {
         SiteFailed::Fault => Status::SiteFault,
-        SiteFailed::TooLarge(_) => over(What::FileSize),
+        SiteFailed::TooLarge(bytes) => over(What::FileSize, bytes),
         SiteFailed::Memory => Status::Memory,
     }
 }

@@ -43,15 +43,15 @@ loop-path-preserved g c =
       small = λ tells others.
           let here = subst (λ (w : World). IsSmallAt w.tree path) (so.same tells) (c.in_ok-file.ensures.small tells) in
           so.small tells (rw first (All-cons (IsSmallAt tree) path rest here others));
-      counted = c.read.ensures.cause.steady (λ e. cc (c.in_ok-file.was, e)) ∙ so.counted;
-      same = λ tells. c.read.ensures.same tells ∙ so.same tells;
+      counted = c.noted_or_read.ensures.cause.steady (λ e. cc (c.in_ok-file.was, e)) ∙ so.counted;
+      same = λ tells. c.noted_or_read.ensures.same tells ∙ so.same tells;
       crash = λ tells.
           let first = so.crash tells in
-          let last = c.read.ensures.crash tells in
+          let last = c.noted_or_read.ensures.crash tells in
           record {
             later = omega (arith, first.later, last.later);
             kept = λ t w le left. last.kept t w (omega (arith, le, first.later)) (first.kept t w le left);
             since = λ t w le left. ⊎_elim (first.since t w le) (λ none. absurd none.2) (last.since t w (omega (arith, le, first.later)) left);
           };
-      known = λ tells. c.read.ensures.known tells ∙ so.known tells;
+      known = λ tells. c.noted_or_read.ensures.known tells ∙ so.known tells;
     }

@@ -30,7 +30,7 @@ returns-clause-found g c = λ tells.
     (λ path there. (left_is owned old.tree path there).1 ∙ ap (λ (w : World). finite.get w.tree path) (sym (c.in_ok-files.ensures.same tells))) in
     record {
       owned = c.requires tells;
-      few = rw (sym files) (rw c.as_slice-2.ensures c.in_ok-few.ensures.few);
+      few = rw (sym files) (rw c.as_slice-2.ensures (c.in_ok-few.ensures.few tells));
       sources = content;
     }
 
