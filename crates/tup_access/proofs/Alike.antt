@@ -51,4 +51,4 @@ follow-alike next rules rule one other same (suc steps) asked = by_step (follow-
 -- trees that are alike where a rule may read give it the same verdict
 pub verdict-alike : (next : Next) (rules : List Rule) (rule : Rule) (one other : Tree) → ReadsAlike rules rule one other → verdict next rules rule one ≡ verdict next rules rule other
 unfolding verdict
-verdict-alike next rules rule one other same = follow-alike next rules rule one other same 4096 []
+verdict-alike next rules rule one other same = follow-alike next rules rule one other same 65536 []

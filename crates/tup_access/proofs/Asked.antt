@@ -23,8 +23,8 @@ module _ (rules : List Rule) (rule : Rule) (tree : Tree) where
   answered_on before [] more one two = subst (λ (n : ℕ). AreAnswered rules rule tree n more) (omega arith) two
   answered_on before (ask ∷ some) more one two = (one.0, answered_on (before + 1) some more one.1 (subst (λ (n : ℕ). AreAnswered rules rule tree n more) (omega arith) two))
 
-  -- a command is never answered more than 4,095 times
-  pub answered_few : (before : ℕ) (asks : Asks) → AreAnswered rules rule tree before asks → before ≤ 4095 → before + length asks ≤ 4095
+  -- a command is never answered more than 65,535 times
+  pub answered_few : (before : ℕ) (asks : Asks) → AreAnswered rules rule tree before asks → before ≤ 65535 → before + length asks ≤ 65535
   answered_few before [] are few = omega arith
   answered_few before (ask ∷ asks) are few =
       let early = (access-Yes rules rule before ask.0 are.0.path are.0.may).early in

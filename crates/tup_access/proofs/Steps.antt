@@ -32,18 +32,18 @@ unfolding verdict verdict_after
 verdict_after-none next rules rule tree = refl
 
 -- a command that ends is judged
-pub verdict_after-End : (next : Next) (rules : List Rule) (rule : Rule) (tree : Tree) (asked : Asks) (ended : Ended) → length asked ≤ 4095 → next rule.dir rule.text asked ≡ End ended → verdict_after next rules rule tree asked ≡ judge rule ended
+pub verdict_after-End : (next : Next) (rules : List Rule) (rule : Rule) (tree : Tree) (asked : Asks) (ended : Ended) → length asked ≤ 65535 → next rule.dir rule.text asked ≡ End ended → verdict_after next rules rule tree asked ≡ judge rule ended
 unfolding verdict_after
-verdict_after-End next rules rule tree asked ended few e = by (4096 - length asked) (omega arith)
+verdict_after-End next rules rule tree asked ended few e = by (65536 - length asked) (omega arith)
   where
     by : (steps : ℕ) → 0 < steps → follow next rules rule tree steps asked ≡ judge rule ended
     by zero h = absurd (omega arith)
     by (suc steps) h = follow-End next rules rule tree steps asked ended e
 
 -- an ask that isn't allowed is the end
-pub verdict_after-No : (next : Next) (rules : List Rule) (rule : Rule) (tree : Tree) (asked : Asks) (text : List ℕ) (refusal : Verdict) → length asked ≤ 4095 → next rule.dir rule.text asked ≡ Ask text → access rules rule (length asked) text ≡ No refusal → verdict_after next rules rule tree asked ≡ bad refusal
+pub verdict_after-No : (next : Next) (rules : List Rule) (rule : Rule) (tree : Tree) (asked : Asks) (text : List ℕ) (refusal : Verdict) → length asked ≤ 65535 → next rule.dir rule.text asked ≡ Ask text → access rules rule (length asked) text ≡ No refusal → verdict_after next rules rule tree asked ≡ bad refusal
 unfolding verdict_after
-verdict_after-No next rules rule tree asked text refusal few e a = by (4096 - length asked) (omega arith)
+verdict_after-No next rules rule tree asked text refusal few e a = by (65536 - length asked) (omega arith)
   where
     by : (steps : ℕ) → 0 < steps → follow next rules rule tree steps asked ≡ bad refusal
     by zero h = absurd (omega arith)
@@ -54,7 +54,7 @@ pub verdict_after-Yes : (next : Next) (rules : List Rule) (rule : Rule) (tree : 
     → verdict_after next rules rule tree asked ≡ verdict_after next rules rule tree (asked ++ (text, answer rule tree path) ∷ [])
 unfolding verdict_after
 verdict_after-Yes next rules rule tree asked text path e a =
-    by (4096 - length asked) (4096 - length more) (simp length-append (let early = (access-Yes rules rule (length asked) text path a).early in omega arith))
+    by (65536 - length asked) (65536 - length more) (simp length-append (let early = (access-Yes rules rule (length asked) text path a).early in omega arith))
   where
     more : Asks
     more = asked ++ (text, answer rule tree path) ∷ []

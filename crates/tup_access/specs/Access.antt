@@ -12,10 +12,10 @@ use Rattle.tup_access.specs.declared.verdict.Access.TheVariants.{Yes, No}
 abbrev pub may_read : List Rule → Rule → Names → Bool
 may_read rules rule path = not (is_generated rules path && not (declares rule path) && not (writes rule path))
 
--- whether a rule may ask for a text after so many asks (own: the 4,096th ask of a command is one too many)
+-- whether a rule may ask for a text after so many asks (own: the 65,536th ask of a command is one too many)
 abbrev pub access : List Rule → Rule → ℕ → List ℕ → Access
 access rules rule before text =
-    if nat_le 4095 before then No TooManyReads
+    if nat_le 65535 before then No TooManyReads
     else elim (resolve rule.dir text) [
       | Err fault ↦ No (IllegalRead text)
       | Ok path ↦ if may_read rules rule path then Yes path else No (IllegalRead text)

@@ -32,10 +32,10 @@ follow next rules rule tree (suc steps) asked =
       ]
     ]
 
--- from the start; the 4,096th ask is refused, so there are never more steps than that
+-- from the start; the 65,536th ask is refused, so there are never more steps than that
 unfoldable pub verdict : Next → List Rule → Rule → Tree → Judged
-verdict next rules rule tree = follow next rules rule tree 4096 []
+verdict next rules rule tree = follow next rules rule tree 65536 []
 
 -- the verdict on a command that has asked this much
 unfoldable pub verdict_after : Next → List Rule → Rule → Tree → Asks → Judged
-verdict_after next rules rule tree asked = follow next rules rule tree (4096 - length asked) asked
+verdict_after next rules rule tree asked = follow next rules rule tree (65536 - length asked) asked

@@ -17,12 +17,12 @@ use tup_path::{Path, PathFault, Text};
 use tup_rule::Rule;
 
 /// The ask at which a command is stopped: it may ask once less.
-pub const MAX_ASKS: u32 = 4096;
+pub const MAX_ASKS: u32 = 65_536;
 
 /// Whether a command may ask for a text, after so many asks. `generated` has the outputs of all rules, and `inputs` what this
 /// one declares.
 ///
-/// The 4,096th ask is `TooManyReads`. Any other is `IllegalRead` where the text names no path, or a
+/// The 65,536th ask is `TooManyReads`. Any other is `IllegalRead` where the text names no path, or a
 /// generated file that the rule neither declares nor writes.
 pub fn allowed(
     alloc: Global,

@@ -14,7 +14,7 @@ pub enum Verdict {
     IllegalWrite(Text),
     /// It didn't write this output.
     Unwritten(Path),
-    /// It asked 4,096 times.
+    /// It asked 65,536 times.
     TooManyReads,
 }
 

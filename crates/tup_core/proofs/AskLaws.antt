@@ -42,7 +42,7 @@ module _ (rules : List Rule) (rule : Rule) (before : ℕ) (text : List ℕ) wher
 
   -- where a text names a path then, the rest is whether the path may be read
   pub open_yes : (path : Names) → access [] rule before text ≡ Yes path → access rules rule before text ≡ access_to_path rules rule text path
-  open_yes path e = by (nat_le 4095 before) (resolve rule.dir text) e
+  open_yes path e = by (nat_le 65535 before) (resolve rule.dir text) e
     where
       by : (late : Bool) (found : Result Names PathFault) → given [] late found ≡ Yes path → given rules late found ≡ access_to_path rules rule text path
       by true found e = cc
@@ -51,7 +51,7 @@ module _ (rules : List Rule) (rule : Rule) (before : ℕ) (text : List ℕ) wher
 
   -- and what may not be asked for even then, may not be asked for
   pub open_no : (verdict : Verdict) → access [] rule before text ≡ No verdict → access rules rule before text ≡ No verdict
-  open_no verdict e = by (nat_le 4095 before) (resolve rule.dir text) e
+  open_no verdict e = by (nat_le 65535 before) (resolve rule.dir text) e
     where
       by : (late : Bool) (found : Result Names PathFault) → given [] late found ≡ No verdict → given rules late found ≡ No verdict
       by true found e = e

@@ -19,9 +19,9 @@ use Rattle.tup_core.specs.Run.{IsRun, end_of}
 use Rattle.tup_core.proofs.Changed.{changed_cases}
 use Rattle.tup_core.proofs.Orderly.{finished_is, seats_ended, seat_emptied}
 
--- a running rule asked at most 4,095 times, and what it was refused is what access says
+-- a running rule asked at most 65,535 times, and what it was refused is what access says
 pub record IsCounted (plan : Plan) (running : Running) : Type 0 where
-  pub few : length running.asks ≤ 4095
+  pub few : length running.asks ≤ 65535
   pub refusal : (rule : Rule) (denied : List ℕ × Verdict) → slice_get plan.rules running.rule ≡ Some rule → running.denied ≡ Some denied → access plan.rules rule (length running.asks) denied.0 ≡ No denied.1
 
 pub record AreCounted (plan : Plan) (state : State) : Type 0 where
@@ -30,7 +30,7 @@ pub record AreCounted (plan : Plan) (state : State) : Type 0 where
 fresh_counted : (plan : Plan) (at : ℕ) → IsCounted plan (record { rule = at; asks = []; denied = None })
 fresh_counted plan at = record { few = few 0 (omega arith); refusal = λ rule denied here is. absurd (none-some denied is) }
   where
-    few : (n : ℕ) → n ≤ 4095 → n ≤ 4095
+    few : (n : ℕ) → n ≤ 65535 → n ≤ 65535
     few n h = h
 
 asked_counted : (plan : Plan) (running : Running) (rule : Rule) (text : List ℕ) (answer : Option Stamp) (path : Names) → running.denied ≡ None →
@@ -40,7 +40,7 @@ asked_counted plan running rule text answer path going may = record {
   refusal = λ one denied here is. absurd (none-some denied (sym going ∙ is));
 }
   where
-    more : (n m : ℕ) → n ≡ m + 1 → m < 4095 → n ≤ 4095
+    more : (n m : ℕ) → n ≡ m + 1 → m < 65535 → n ≤ 65535
     more n m is early = omega arith
 
 denied_counted : (plan : Plan) (running : Running) (rule : Rule) (text : List ℕ) (given : Verdict) → IsCounted plan running → slice_get plan.rules running.rule ≡ Some rule →

@@ -217,14 +217,14 @@ module _ (next : Next) (known : List Content) (kept : Kept) (tree : Tree) (plan 
       told : IsTold known plan.rules (clean_of next kept tree plan).tree rule current_one.0.asks true_one.asks
       told = told_over known plan.rules (clean_of next kept tree plan).tree rule current_one.0.asks true_one.asks true_one.recorded (λ k d below. read_one rule at current_one.0 here unreached current_one.1 current_one.2 settled k d below)
 
-      few : length told.seen ≤ 4095
-      few = subst (λ (n : ℕ). n ≤ 4095) (sym told.many) true_one.few
+      few : length told.seen ≤ 65535
+      few = subst (λ (n : ℕ). n ≤ 65535) (sym told.many) true_one.few
 
       upto : verdict next plan.rules rule (clean_of next kept tree plan).tree ≡ judge rule true_one.ended
       upto =
           goes_to next known plan.rules rule (clean_of next kept tree plan).tree planned.is_known told.seen true_one.asks told.answered told.over true_one.just few
           ∙ verdict_after-End next plan.rules rule (clean_of next kept tree plan).tree true_one.asks true_one.ended
-          (subst (λ (n : ℕ). n ≤ 4095) (sym (as_many known told.seen true_one.asks told.answered)) few) true_one.ends
+          (subst (λ (n : ℕ). n ≤ 65535) (sym (as_many known told.seen true_one.asks told.answered)) few) true_one.ends
 
       stamps : (content : Names → Content) → (verdict next plan.rules rule (clean_of next kept tree plan).tree).files ≡ each_with content rule.outputs → (path : Names) → writes rule path ≡ true →
           (opening plan files).files path ≡ Some (stamp (content path))

@@ -35,8 +35,8 @@ use Rattle.tup_core.proofs.Standing.{asks_stand}
 use Rattle.tup_core.proofs.Counted.{IsCounted, all_counted}
 
 -- a text that names a path that may be read may be asked for
-may_ask : (rules : List Rule) (rule : Rule) (before : ℕ) (text : List ℕ) (path : Names) → before < 4095 → resolve rule.dir text ≡ Ok path → may_read rules rule path ≡ true → access rules rule before text ≡ Yes path
-may_ask rules rule before text path early named readable = rw (lt-leb 4095 before early) (rw named (rw readable refl))
+may_ask : (rules : List Rule) (rule : Rule) (before : ℕ) (text : List ℕ) (path : Names) → before < 65535 → resolve rule.dir text ≡ Ok path → may_read rules rule path ≡ true → access rules rule before text ≡ Yes path
+may_ask rules rule before text path early named readable = rw (lt-leb 65535 before early) (rw named (rw readable refl))
 
 -- ---- one answer
 
@@ -80,7 +80,7 @@ answer_of known rules rule tree ask given is_known over stands =
 -- ---- all asks
 
 follows : (next : Next) (known : List Content) (rules : List Rule) (rule : Rule) (tree : Tree) → IsKnown known →
-    (seen : List (List ℕ × Option Stamp)) (given : Asks) (before : Asks) → AreAnswered known seen given → All (IsAsOver known rules rule tree) seen → AsksJust (next rule.dir rule.text) (before ++ given) → length before + length seen ≤ 4095 →
+    (seen : List (List ℕ × Option Stamp)) (given : Asks) (before : Asks) → AreAnswered known seen given → All (IsAsOver known rules rule tree) seen → AsksJust (next rule.dir rule.text) (before ++ given) → length before + length seen ≤ 65535 →
     verdict_after next rules rule tree before ≡ verdict_after next rules rule tree (before ++ given)
 follows next known rules rule tree is_known [] [] before answered over just few = ap (verdict_after next rules rule tree) (sym (append-nil before))
 follows next known rules rule tree is_known [] (one ∷ given) before answered over just few = absurd answered
@@ -105,19 +105,19 @@ follows next known rules rule tree is_known (ask ∷ seen) (one ∷ given) befor
     later : (k n : ℕ) → k < n → suc k < suc n
     later k n below = omega arith
 
-    room : (n m : ℕ) → n + suc m ≤ 4095 → n < 4095
+    room : (n m : ℕ) → n + suc m ≤ 65535 → n < 65535
     room n m few = omega arith
 
-    shift : (l n m : ℕ) → l ≡ n + 1 → n + suc m ≤ 4095 → l + m ≤ 4095
+    shift : (l n m : ℕ) → l ≡ n + 1 → n + suc m ≤ 65535 → l + m ≤ 65535
     shift l n m is few = omega arith
 
 -- a command that asked this much, as a tree would answer it, is followed over the tree from there
 pub goes_to : (next : Next) (known : List Content) (rules : List Rule) (rule : Rule) (tree : Tree) → IsKnown known → (seen : List (List ℕ × Option Stamp)) (given : Asks) →
-    AreAnswered known seen given → All (IsAsOver known rules rule tree) seen → AsksJust (next rule.dir rule.text) given → length seen ≤ 4095 → verdict next rules rule tree ≡ verdict_after next rules rule tree given
+    AreAnswered known seen given → All (IsAsOver known rules rule tree) seen → AsksJust (next rule.dir rule.text) given → length seen ≤ 65535 → verdict next rules rule tree ≡ verdict_after next rules rule tree given
 goes_to next known rules rule tree is_known seen given answered over just few =
     sym (verdict_after-none next rules rule tree) ∙ follows next known rules rule tree is_known seen given [] answered over just (from_none (length seen) few)
   where
-    from_none : (n : ℕ) → n ≤ 4095 → 0 + n ≤ 4095
+    from_none : (n : ℕ) → n ≤ 65535 → 0 + n ≤ 65535
     from_none n few = omega arith
 
 -- the answers are as many as the asks
@@ -136,14 +136,14 @@ pub record IsEndOver (known : List Content) (judged : Judged) (given : Verdict) 
   pub contents : All (λ (file : Names × Content). Contains known file.1) judged.files
 
 end_is : (next : Next) (known : List Content) (rules : List Rule) (rule : Rule) (running : Running) (tree : Tree) (denied : Option (List ℕ × Verdict)) (given : Verdict) (written : List (Names × Stamp)) →
-    length running.asks ≤ 4095 → ((one : List ℕ × Verdict) → denied ≡ Some one → access rules rule (length running.asks) one.0 ≡ No one.1) →
+    length running.asks ≤ 65535 → ((one : List ℕ × Verdict) → denied ≡ Some one → access rules rule (length running.asks) one.0 ≡ No one.1) →
     ((answered : Answered next known rule running) → verdict next rules rule tree ≡ verdict_after next rules rule tree answered.asks) →
     FitsEnd rule denied given written → EndsHonestly next known rule running denied given written → IsEndOver known (verdict next rules rule tree) given written
 end_is next known rules rule running tree (Some denied) given written few refusal upto (same, none) (answered, asks_it) =
     let many = as_many known running.asks answered.asks answered.stamps in
     let refused_so : access rules rule (length answered.asks) denied.0 ≡ No denied.1 = ap (λ n. access rules rule n denied.0) many ∙ refusal denied refl in
     let is : verdict next rules rule tree ≡ bad denied.1 =
-    upto answered ∙ verdict_after-No next rules rule tree answered.asks denied.0 denied.1 (subst (λ (n : ℕ). n ≤ 4095) (sym many) few) asks_it refused_so in
+    upto answered ∙ verdict_after-No next rules rule tree answered.asks denied.0 denied.1 (subst (λ (n : ℕ). n ≤ 65535) (sym many) few) asks_it refused_so in
     subst (λ (j : Judged). IsEndOver known j given written) (sym is)
     (record { verdict = sym same; stamps = sym none; contents = λ k d below. absurd (no_place k below) })
   where
@@ -152,7 +152,7 @@ end_is next known rules rule running tree (Some denied) given written few refusa
 end_is next known rules rule running tree None given written few refusal upto fits (answered, ended, ends, judged, stamps, files) =
     let many = as_many known running.asks answered.asks answered.stamps in
     let is : verdict next rules rule tree ≡ judge rule ended =
-    upto answered ∙ verdict_after-End next rules rule tree answered.asks ended (subst (λ (n : ℕ). n ≤ 4095) (sym many) few) ends in
+    upto answered ∙ verdict_after-End next rules rule tree answered.asks ended (subst (λ (n : ℕ). n ≤ 65535) (sym many) few) ends in
     subst (λ (j : Judged). IsEndOver known j given written) (sym is) (record { verdict = judged; stamps = stamps; contents = files })
 
 -- an honest end over asks as a tree would answer them is its rule's verdict over the tree

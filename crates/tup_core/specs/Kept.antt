@@ -46,7 +46,7 @@ pub record IsTrueRecord (next : Next) (known : List Content) (rule : Rule) (run 
   pub asks : Asks
   pub recorded : AreRecorded known rule run.asks asks
   pub just : AsksJust (next rule.dir rule.text) asks
-  pub few : length run.asks ≤ 4095
+  pub few : length run.asks ≤ 65535
   pub ended : Ended
   pub ends : next rule.dir rule.text asks ≡ End ended
   pub good : (judge rule ended).verdict ≡ Good

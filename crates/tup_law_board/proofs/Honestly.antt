@@ -69,13 +69,13 @@ module _ (next : Next) (known : List Content) (rule : Rule) where
     goes_on (before ++ ask ∷ []) asks (subst (AsksJust (next rule.dir rule.text)) (sym (append_assoc before (ask ∷ []) asks)) just),
   )
 
-  pub honest_run : (running : Running) (run : RunRecord) → length running.asks ≤ 4095 → EndsHonestly next known rule running None Good run.writes → AreNoted rule.dir running.asks run.asks → OwnAbsent running.asks
+  pub honest_run : (running : Running) (run : RunRecord) → length running.asks ≤ 65535 → EndsHonestly next known rule running None Good run.writes → AreNoted rule.dir running.asks run.asks → OwnAbsent running.asks
       → IsTrueRun next known rule run
   honest_run running run few (answered, ended, ends, good, files, contents) noted own = record {
     asks = answered.asks;
     recorded = recorded running.asks answered.asks run.asks answered.stamps noted own;
     just = goes_on [] answered.asks answered.just;
-    few = subst (λ (n : ℕ). n ≤ 4095) (sym (as_many known running.asks answered.asks answered.stamps)) few;
+    few = subst (λ (n : ℕ). n ≤ 65535) (sym (as_many known running.asks answered.asks answered.stamps)) few;
     ended = ended;
     ends = ends;
     good = good;

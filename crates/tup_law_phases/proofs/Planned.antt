@@ -64,7 +64,7 @@ true_record next known rule run is = record {
   asks = is.asks;
   recorded = recorded known rule is.asks run.asks is.recorded;
   just = record { each = goes_on next rule [] is.asks is.just };
-  few = subst (λ (n : ℕ). n ≤ 4095) (as_many known rule is.asks run.asks is.recorded) is.few;
+  few = subst (λ (n : ℕ). n ≤ 65535) (as_many known rule is.asks run.asks is.recorded) is.few;
   ended = is.ended;
   ends = is.ends;
   good = is.good;

@@ -1,12 +1,13 @@
 -- One more turn of each loop, as the definitions have it.
+use Rattle.std.specs.Prelude.{nat_lt, true, false, if◌then◌else◌}
 use Rattle.std.proofs.Common.{◌≡◌, ℕ, zero, suc, ◌+◌, ◌-◌, ◌<◌, ◌≤◌, arith, List, ◌∷◌, ◌++◌, length, get_or, drop, Option, None, Some, refl, sym, ap, ◌∙◌}
 use Rattle.std.proofs.lemmas.List.{at_drop_more}
 use Rattle.tup_path.specs.Name.{Content}
 use Rattle.tup_mini.specs.declared.step.MiniStep.{MiniStep}
 use Rattle.tup_mini.specs.Kept.{Kept}
 use Rattle.tup_mini.specs.Part.{Part, ◌>>=◌}
-use Rattle.tup_mini.specs.Kept.{own_content}
-use Rattle.tup_mini.specs.Part.{ask_for}
+use Rattle.tup_mini.specs.Kept.{first_text, own_content, with_ask}
+use Rattle.tup_mini.specs.Part.{ask_for, ask_on, ask_once}
 use Rattle.tup_mini.specs.Files.{reads_own, reads, needs, gathers}
 use Rattle.tup_mini.specs.Include.{lines_of, unended, included, folder_part, expands, includes}
 use Rattle.tup_mini.specs.Means.{does, runs}
@@ -18,6 +19,16 @@ reads-some kept text content found is some = λ i asks. elim ((sym is ∙ some) 
 
 pub reads-none : (kept : Kept) (text : List ℕ) (found : Option Content) → found ≡ own_content kept.dir kept.writes text → found ≡ None → reads text kept ≡ ask_for text kept
 reads-none kept text found is none = λ i asks. elim ((sym is ∙ none) i) [ Some c ↦ reads_own c kept asks | None ↦ ask_for text kept asks ]
+
+-- ---- a file that is asked for
+
+pub asks-on : (kept : Kept) (text again : List ℕ) → nat_lt kept.asked 4095 ≡ false → again ≡ first_text kept.first text → ask_for text kept ≡ ask_on again
+asks-on kept text again over is =
+    λ i asks. if over i then ask_once text (with_ask text kept) asks else ask_on (sym is i) asks
+
+pub asks-once : (kept after : Kept) (text : List ℕ) → nat_lt kept.asked 4095 ≡ true → after ≡ with_ask text kept → ask_for text kept ≡ ask_once text after
+asks-once kept after text under is =
+    λ i asks. if under i then ask_once text (sym is i) asks else ask_on (first_text kept.first text) asks
 
 -- ---- files that are read in order
 

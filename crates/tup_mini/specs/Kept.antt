@@ -1,7 +1,7 @@
--- What a command under way keeps (own): its folder, its writes in the order of the first to each path, and how often it
--- read one of them.
+-- What a command under way keeps (own): its folder, its writes in the order of the first to each path, how often it
+-- read one of them, how often it asked for another file, and the text of the first that it asked for.
 -- A text that names no path is never read back, and is there once for each write.
-use Rattle.std.specs.Prelude.{ℕ, Bool, false, if◌then◌else◌, List, [], ◌∷◌, ◌++◌, Option, None, Some}
+use Rattle.std.specs.Prelude.{ℕ, ◌+◌, Bool, false, if◌then◌else◌, List, [], ◌∷◌, ◌++◌, Option, None, Some}
 use Rattle.std.specs.Result.{result_ok}
 use Rattle.tup_path.specs.Name.{Names, Content}
 use Rattle.tup_path.specs.Order.{same_path}
@@ -16,10 +16,21 @@ pub record Kept : Type 0 where
   pub dir : Names
   pub writes : Writes
   pub own_reads : ℕ
+  pub asked : ℕ
+  pub first : Option (List ℕ)
 
--- nothing was written yet
+-- nothing was written yet, and no file asked for
 abbrev pub nothing : Names → Kept
-nothing dir = record { dir = dir; writes = []; own_reads = 0 }
+nothing dir = record { dir = dir; writes = []; own_reads = 0; asked = 0; first = None }
+
+-- the first text that was asked for, or this one where none was
+abbrev pub first_text : Option (List ℕ) → List ℕ → List ℕ
+first_text None text = text
+first_text (Some first) text = first
+
+-- what is kept after one more ask
+abbrev pub with_ask : List ℕ → Kept → Kept
+with_ask text kept = record kept { asked = kept.asked + 1; first = Some (first_text kept.first text) }
 
 -- the path that a text names, if any
 abbrev pub path_of : Names → List ℕ → Option Names

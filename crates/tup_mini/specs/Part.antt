@@ -1,11 +1,11 @@
 -- A part of a command (own), as a function of what the command keeps and of the answers that it is still given.
-use Rattle.std.specs.Prelude.{ℕ, List, [], ◌∷◌, Option, None, Some}
+use Rattle.std.specs.Prelude.{ℕ, nat_lt, if◌then◌else◌, List, [], ◌∷◌, Option, None, Some}
 use Rattle.tup_path.specs.Name.{Content}
 use Rattle.tup_runner.specs.Next.{Asks}
 use Rattle.tup_runner.specs.declared.step.Answer.TheVariants.{Content as Found, Absent}
 use Rattle.tup_runner.specs.declared.step.Step.{Step}
 use Rattle.tup_runner.specs.declared.step.Step.TheVariants.{Ask, End}
-use Rattle.tup_mini.specs.Kept.{Kept}
+use Rattle.tup_mini.specs.Kept.{Kept, first_text, with_ask}
 
 -- what comes of a part: the command's next step, where it asks or ends within the part, or else a value, with what the
 -- command keeps then and the answers that are left
@@ -41,6 +41,16 @@ told [] text kept on = Next (Ask text)
 told ((used, Found content) ∷ asks) text kept on = on (Some content) kept asks
 told ((used, Absent) ∷ asks) text kept on = on None kept asks
 
--- a file is asked for
+-- a file is asked for, whatever was asked before
+abbrev pub ask_once : List ℕ → Part (Option Content)
+ask_once text = λ kept asks. told asks text kept gives
+
+-- a file is asked for again and again, whatever is answered
+abbrev pub ask_on : List ℕ → Asks → Outcome (Option Content)
+ask_on text = λ asks. Next (Ask text)
+
+-- a file is asked for. A command may ask 4,095 times: after that it asks for its first file again, until that is refused
 abbrev pub ask_for : List ℕ → Part (Option Content)
-ask_for text = λ kept asks. told asks text kept gives
+ask_for text = λ kept asks.
+    if nat_lt kept.asked 4095 then ask_once text (with_ask text kept) asks
+    else ask_on (first_text kept.first text) asks

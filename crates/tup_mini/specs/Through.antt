@@ -14,7 +14,7 @@ use Rattle.tup_mini.specs.Part.{Outcome, Next, gives, stops}
 
 -- what the code keeps, as the definitions see it
 abbrev pub kept_of : KeptValue → Kept
-kept_of k = record { dir = k.written.dir; writes = k.written.writes.items; own_reads = k.own_reads }
+kept_of k = record { dir = k.written.dir; writes = k.written.writes.items; own_reads = k.own_reads; asked = k.asked; first = k.first }
 
 -- what a part does after these answers, whose texts it asks for in their order
 abbrev pub Leads : {A : Type 0} → (Asks → Outcome A) → Asks → (Asks → Outcome A) → Type 0

@@ -15,5 +15,5 @@ returns-in-Some g c =
 pub returns-in-None : goal.returns-in-None
 returns-in-None g c =
     let kept = kept_of c.args.self.now in
-    follows_same g.V.View.came g.V.View.same g.V.View.refusal c.args.view.now c.ask.new.view (reads c.args.text.now kept) (ask_for c.args.text.now kept) kept c.ask.result
-    (reads-none kept c.args.text.now c.in_ok-content.field-0 c.in_ok-content.ensures c.in-None.is) (c.ask.ensures kept)
+    follows_same g.V.View.came g.V.View.same g.V.View.refusal c.args.view.now c.ask.new.view (reads c.args.text.now kept) (ask_for c.args.text.now kept) (kept_of c.ask.new.self) c.ask.result
+    (reads-none kept c.args.text.now c.in_ok-content.field-0 c.in_ok-content.ensures c.in-None.is) c.ask.ensures
