@@ -1,5 +1,6 @@
 -- What is due again: in a kept graph, over a tree that is as it was seen but for the outputs of flagged rules, whatever is reached is flagged.
 use Rattle.std.proofs.Common.{◌≡◌, inl, inr, ℕ, zero, suc, Bool, true, false, List, map, None, Some, Contains, refl, sym, ap, subst, ◌∙◌}
+use Rattle.std.specs.Prelude.{cond, is_some}
 use Rattle.std.specs.FinMap as finite
 use Rattle.std.proofs.lemmas.Bool.{false_from_ne_true, true≢false}
 use Rattle.std.proofs.lemmas.List.Elements.{All-contains}
@@ -16,12 +17,13 @@ use Rattle.tup_access.proofs.Outputs.{judge-LeavesOutputs}
 use Rattle.tup_record.specs.declared.owned.OwnedState.TheVariants.{Written}
 use Rattle.tup_record.specs.declared.run.RunRecord.{RunRecord}
 use Rattle.tup_graph.specs.declared.owned.Owned.{Owned}
-use Rattle.tup_graph.specs.Graph.{GraphState, is_flagged}
+use Rattle.tup_graph.specs.Graph.{GraphState, is_flagged, is_owned, source}
 use Rattle.tup_graph.specs.Kept.{HasSeenStamps, IsGraphIn, IsKept, IsRuleAt, IsUnflagged}
-use Rattle.tup_graph.specs.Reach.{IsChanged, IsReachRoot, IsReached, ReachedOver, stamp_in}
+use Rattle.tup_graph.specs.Reach.{IsChanged, IsReachRoot, IsReached, ReachedOver, source_in, stamp_in}
 use Rattle.tup_graph.proofs.Keeping.{has_run, names_of, wrote_output}
 use Rattle.tup_law_graph.specs.Linking.{HaveOwnNames}
 use Rattle.tup_law_graph.proofs.Named.{linked_names}
+use Rattle.tup_law_graph.proofs.Turning.{none_asked_turned}
 use Rattle.tup_law_site.proofs.Stores.{one_in_bytes}
 use Rattle.tup_law_board.proofs.Runs.{stamp_written}
 use Rattle.tup_law_phases.specs.Language.{tupfiles}
@@ -66,6 +68,14 @@ module _ (next : Next) (known : List Content) (g : GraphState) (kept : IsKept ne
 
   -- ---- over a tree that is as it was seen, but for the outputs of flagged rules
   module _ (tree : Tree) (as_seen : (path : Names) → ((number : ℕ) (maker : Rule) → IsRuleAt g number maker → writes maker path ≡ true → is_flagged g number ≡ false) → finite.get g.seen path ≡ stamp_in tree path) where
+    -- the sources are as they were seen: no rule makes one
+    source_seen : (path : Names) → source g path ≡ source_in g tree path
+    source_seen path = by (is_owned g path) refl
+      where
+        by : (owned : Bool) → is_owned g path ≡ owned → cond owned None (finite.get g.seen path) ≡ cond owned None (stamp_in tree path)
+        by true is = refl
+        by false isnt = as_seen path (λ number maker here wrote. absurd (true≢false (sym (ap is_some (kept.owners.made number maker path here wrote).1) ∙ isnt)))
+
     -- a rule that isn't flagged is no root
     module _ (at : ℕ) (rule : Rule) (here : IsRuleAt g at rule) (off : is_flagged g at ≡ false) where
       has : (run : RunRecord) × (finite.get g.runs at ≡ Some run) × HasSeenStamps g rule run
@@ -99,7 +109,8 @@ module _ (next : Next) (known : List Content) (g : GraphState) (kept : IsKept ne
       not_root (inl none) = none at here
       not_root (inr (inl (number, there, inl flagged))) = no_flag number (one_number number at rule there here) flagged
       not_root (inr (inl (number, there, inr none))) = has_record number (one_number number at rule there here) none
-      not_root (inr (inr (number, run, is, changed))) = changed_none number run (one_number number at rule is.same here) is.run_of changed
+      not_root (inr (inr (number, run, is, inl changed))) = changed_none number run (one_number number at rule is.same here) is.run_of changed
+      not_root (inr (inr (number, run, is, inr told))) = none_asked_turned (source g) (source_in g tree) rule run (λ i path. source_seen path i) told
 
     root_flagged : (at : ℕ) (rule : Rule) → IsRuleAt g at rule → IsReachRoot g tree rule → is_flagged g at ≡ true
     root_flagged at rule here root = by (is_flagged g at) refl

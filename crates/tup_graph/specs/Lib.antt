@@ -8,6 +8,7 @@ pub mod Records
 pub mod Answers
 pub mod Kept
 pub mod Above
+pub mod Turned
 pub mod Scan
 pub mod Swap
 pub mod Reach

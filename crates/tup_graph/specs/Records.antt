@@ -54,7 +54,7 @@ pub record IsTrueRun (next : Next) (known : List Content) (rule : Rule) (run : R
   pub asks : Asks
   pub recorded : AreRecorded known rule asks run.asks
   pub just : GoesOnAsking next rule [] asks
-  pub few : length asks ≤ 4095
+  pub few : length asks ≤ 65535
   pub ended : Ended
   pub ends : next rule.dir rule.text asks ≡ End ended
   pub good : (judge rule ended).verdict ≡ Good

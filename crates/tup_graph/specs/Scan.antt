@@ -12,6 +12,7 @@ use Rattle.tup_graph.specs.Above.{IsAbove}
 use Rattle.tup_graph.specs.Answers.{tupfile, IsSource, IsAnswer}
 use Rattle.tup_graph.specs.Graph.{GraphState, is_flagged, is_created, source}
 use Rattle.tup_graph.specs.Kept.{IsRuleAt, Asked}
+use Rattle.tup_graph.specs.Turned.{IsTurnedRun}
 
 -- a path that the run of a rule asked, own outputs aside, or wrote has another stamp
 abbrev pub IsTouched : GraphState → ℕ → Type 0
@@ -29,6 +30,10 @@ IsStale g config dir =
     × ((IsSource (source g) (tupfile dir) → ⊥)
     ⊎ ((question : Question) × (told : Noted) × Contains reading.asked (question, told) × (IsAnswer (option_to_list config) (source g) g.readings dir question told → ⊥))))
 
+-- a rule with which a scan begins: it was flagged, its run is touched, or that was told of a folder that came or went
+abbrev pub BeginsAt : GraphState → GraphState → ℕ → Type 0
+BeginsAt old new root = (is_flagged old root ≡ true) ⊎ IsTouched new root ⊎ IsTurnedRun old new root
+
 -- the graph after a scan that found these files, and this in tup.config
 pub record IsScanned (old : GraphState) (files : List (Names × Stamp)) (config : Option Content) (new : GraphState) : Type 0 where
   pub seen : new.seen ≡ finite.from_entries files
@@ -38,4 +43,4 @@ pub record IsScanned (old : GraphState) (files : List (Names × Stamp)) (config 
   pub runs : new.runs ≡ old.runs
   pub owned : new.owned ≡ old.owned
   pub created : (dir : Names) → (is_created new dir ≡ true) ↔ ((is_created old dir ≡ true) ⊎ IsStale new config dir)
-  pub flags : (number : ℕ) → (is_flagged new number ≡ true) ↔ IsAbove new (λ root. (is_flagged old root ≡ true) ⊎ IsTouched new root) number
+  pub flags : (number : ℕ) → (is_flagged new number ≡ true) ↔ IsAbove new (BeginsAt old new) number

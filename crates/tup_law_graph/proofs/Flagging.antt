@@ -16,22 +16,25 @@ use Rattle.tup_clean.proofs.Among.{is_generated-maker}
 use Rattle.tup_runner.specs.Next.{Next}
 use Rattle.tup_record.specs.declared.run.RunRecord.{RunRecord}
 use Rattle.tup_graph.specs.Above.{AboveOver, IsAbove, HasReadOf}
+use Rattle.tup_graph.specs.Answers.{Sources}
 use Rattle.tup_graph.specs.Graph.{GraphState, is_flagged, is_owned, source}
 use Rattle.tup_graph.specs.Kept.{IsKept, IsRuleAt}
-use Rattle.tup_graph.specs.Reach.{stamp_in, HasRecord, IsChanged, IsReachRoot, ReachedOver, IsReached}
+use Rattle.tup_graph.specs.Reach.{source_in, stamp_in, HasRecord, IsChanged, IsReachRoot, ReachedOver, IsReached}
 use Rattle.tup_graph.specs.Records.{Language}
-use Rattle.tup_graph.specs.Scan.{IsScanned, IsTouched}
+use Rattle.tup_graph.specs.Scan.{BeginsAt, IsScanned, IsTouched}
+use Rattle.tup_graph.specs.Turned.{AskedTurned, IsTurnedRun}
 use Rattle.tup_graph.proofs.Keeping.{has_run}
 use Rattle.tup_graph.specs.Swap.{IsFlaggedYet, IsNew, IsSwapped, ReadsNew, WasAt}
 use Rattle.tup_law_graph.specs.Linking.{DeclareWhatIsThere, HaveOwnNames}
 use Rattle.tup_law_graph.proofs.Scanning.{scan_upward}
+use Rattle.tup_law_graph.proofs.Turning.{sources_seen}
 use Rattle.tup_law_graph.proofs.Swapping.{ran_before, stands, stood, swap_upward, was_or_new}
 
 module _ (next : Next) (language : Language) (known : List Content) (g scanned swapped : GraphState) (files : List (Names × Stamp)) (config : Option Content) (fresh : List (Names × Reading)) (gone : List Names) (rules : List Rule) (tree sources : Tree)
     (kept : IsKept next language known g) (scan : IsScanned g files config scanned) (swap : IsSwapped scanned fresh gone rules swapped) (as_seen : (path : Names) → finite.get scanned.seen path ≡ stamp_in tree path)
     (sees : (path : Names) → source scanned path ≡ stamp_in sources path) (own_names : HaveOwnNames g.rules) (declare : DeclareWhatIsThere sources rules) where
   abbrev Root : ℕ → Type 0
-  Root root = (is_flagged g root ≡ true) ⊎ IsTouched scanned root
+  Root = BeginsAt g scanned
 
   -- a rule and a record of the graph that was scanned are those of the graph
   rule_in : (number : ℕ) (rule : Rule) → IsRuleAt scanned number rule → IsRuleAt g number rule
@@ -48,6 +51,10 @@ module _ (next : Next) (language : Language) (known : List Content) (g scanned s
 
   was_new : (rule : Rule) → IsNew scanned rule → (number : ℕ) → IsRuleAt g number rule → ⊥
   was_new rule fresh_one number here = fresh_one number (rule_out number rule here)
+
+  -- the sources that are seen are those in the tree
+  sources_are : source scanned ≡ source_in g tree
+  sources_are = sources_seen g scanned tree scan.owned as_seen
 
   -- two rules of the graph that make one path are one
   one_maker : (a b : ℕ) (x y : Rule) (path : Names) → IsRuleAt g a x → IsRuleAt g b y → writes x path ≡ true → writes y path ≡ true → a ≡ b
@@ -76,7 +83,7 @@ module _ (next : Next) (language : Language) (known : List Content) (g scanned s
   -- ---- what is flagged is reached
 
   touched_root : (number : ℕ) (rule : Rule) → IsRuleAt g number rule → IsTouched scanned number → IsReachRoot g tree rule
-  touched_root number rule here (it, run, there, ran, what) = inr (inr (number, run, record { same = here; run_of = run_in number run ran }, changed what))
+  touched_root number rule here (it, run, there, ran, what) = inr (inr (number, run, record { same = here; run_of = run_in number run ran }, inl (changed what)))
     where
       same : it ≡ rule
       same = same_Some it rule (sym (rule_in number it there) ∙ here)
@@ -86,9 +93,17 @@ module _ (next : Next) (language : Language) (known : List Content) (g scanned s
       changed (inl (path, given, asked, apart)) = inl (path, given, (asked.0, subst (λ (r : Rule). writes r path ≡ false) same asked.1), λ e. apart (e ∙ sym (as_seen path)))
       changed (inr (path, given, wrote, apart)) = inr (path, given, wrote, λ e. apart (e ∙ sym (as_seen path)))
 
+  turned_root : (number : ℕ) (rule : Rule) → IsRuleAt g number rule → IsTurnedRun g scanned number → IsReachRoot g tree rule
+  turned_root number rule here (it, run, there, ran, told) =
+      inr (inr (number, run, record { same = here; run_of = run_in number run ran }, inr (subst (λ (x : Rule × Sources). AskedTurned (source g) x.1 x.0 run) (λ i. (same i, sources_are i)) told)))
+    where
+      same : it ≡ rule
+      same = same_Some it rule (sym (rule_in number it there) ∙ here)
+
   root_reached : (before : ℕ) (rule : Rule) → Root before → IsRuleAt g before rule → (number : ℕ) → slice_get rules number ≡ Some rule → IsReached g tree rules number
   root_reached before rule (inl flagged) here number there = (zero, (rule, there, inr (inl (before, here, inl flagged))))
-  root_reached before rule (inr touched) here number there = (zero, (rule, there, touched_root before rule here touched))
+  root_reached before rule (inr (inl touched)) here number there = (zero, (rule, there, touched_root before rule here touched))
+  root_reached before rule (inr (inr turned)) here number there = (zero, (rule, there, turned_root before rule here turned))
 
   -- who read an output of a reached rule is reached
   further : (number other before : ℕ) (rule it : Rule) (run : RunRecord) (path : Names) (given : Option Stamp) → slice_get rules number ≡ Some rule → HasRecord g rule before run → Contains run.asks (path, given)
@@ -180,7 +195,10 @@ module _ (next : Next) (language : Language) (known : List Content) (g scanned s
       by false unflagged =
           let has = has_run next language known g kept before rule (record { here = here; unflagged = unflagged }) in
           absurd (none-some has.0 (sym no_run ∙ has.1))
-  root_flagged number rule there (inr (inr (before, run, has, changed))) = flagged_if number before rule there has.same (inr (rule, run, rule_out before rule has.same, run_out before run has.run_of, touched changed))
+  root_flagged number rule there (inr (inr (before, run, has, inr told))) =
+      flagged_if number before rule there has.same (inr (inr (rule, run, rule_out before rule has.same, run_out before run has.run_of, subst (λ (s : Sources). AskedTurned (source g) s rule run) (sym sources_are) told)))
+  root_flagged number rule there (inr (inr (before, run, has, inl changed))) =
+      flagged_if number before rule there has.same (inr (inl (rule, run, rule_out before rule has.same, run_out before run has.run_of, touched changed)))
     where
       touched : IsChanged tree rule run
           → ((path : Names) × (given : Option Stamp) × (Contains run.asks (path, given) × (writes rule path ≡ false)) × (given ≢ finite.get scanned.seen path)) ⊎ ((path : Names) × (given : Stamp) × Contains run.writes (path, given) × (Some given ≢ finite.get scanned.seen path))

@@ -1,5 +1,6 @@
 pub mod Stable
 pub mod Answering
+pub mod Turning
 pub mod Scanning
 pub mod Edited
 pub mod Reached

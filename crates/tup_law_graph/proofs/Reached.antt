@@ -1,6 +1,6 @@
 -- Where no rule is flagged and the tree is as it was seen, no rule is reached.
 use Rattle.std.specs.Prelude.{◌≡◌, ℕ, zero, suc, false, List, None, Some, Ok}
-use Rattle.std.proofs.Common.{sym, subst, ◌∙◌, inl, inr}
+use Rattle.std.proofs.Common.{refl, sym, subst, ◌∙◌, inl, inr}
 use Rattle.std.specs.FinMap as finite
 use Rattle.std.proofs.lemmas.Bool.{true≢false}
 use Rattle.std.proofs.lemmas.List.Elements.{All-contains}
@@ -12,11 +12,12 @@ use Rattle.tup_runner.specs.Next.{Next}
 use Rattle.tup_project.specs.Project.{ComeTo}
 use Rattle.tup_project.proofs.Alike.{projects_alike}
 use Rattle.tup_record.specs.declared.run.RunRecord.{RunRecord}
-use Rattle.tup_graph.specs.Graph.{GraphState, is_flagged}
+use Rattle.tup_graph.specs.Graph.{GraphState, is_flagged, source}
 use Rattle.tup_graph.specs.Kept.{IsKept, IsRuleAt, HasSeenStamps}
-use Rattle.tup_graph.specs.Reach.{stamp_in, IsChanged, IsReachRoot, ReachedOver, IsReached}
+use Rattle.tup_graph.specs.Reach.{source_in, stamp_in, IsChanged, IsReachRoot, ReachedOver, IsReached}
 use Rattle.tup_graph.specs.Records.{Language}
 use Rattle.tup_graph.proofs.Keeping.{has_run}
+use Rattle.tup_law_graph.proofs.Turning.{none_asked_turned, sources_seen}
 
 -- a record with the seen stamps isn't changed in a tree that holds them
 pub unchanged : (g : GraphState) (tree : Tree) (rule : Rule) (run : RunRecord) → ((path : Names) → finite.get g.seen path ≡ stamp_in tree path) → HasSeenStamps g rule run → IsChanged tree rule run → ⊥
@@ -36,7 +37,8 @@ module _ (next : Next) (language : Language) (known : List Content) (g : GraphSt
       let has = up_to_date number rule there in
       let e : None ≡ Some has.0 = sym no_run ∙ has.1 in
       cc
-  not_root at rule here (inr (inr (number, run, is, changed))) =
+  not_root at rule here (inr (inr (number, run, is, inr told))) = none_asked_turned (source g) (source_in g tree) rule run (sources_seen g g tree refl as_seen) told
+  not_root at rule here (inr (inr (number, run, is, inl changed))) =
       let has = up_to_date number rule is.same in
       let e : Some has.0 ≡ Some run = sym has.1 ∙ is.run_of in
       let one : has.0 ≡ run = cc in

@@ -18,13 +18,13 @@ use Rattle.tup_graph.specs.Answers.{tupfile, IsSource, IsAnswer}
 use Rattle.tup_graph.specs.Graph.{GraphState, is_flagged, is_created, source}
 use Rattle.tup_graph.specs.Kept.{IsRuleAt, IsUnflagged, HasSeenStamps, AgreesWithSeen, IsKept}
 use Rattle.tup_graph.specs.Records.{Language}
-use Rattle.tup_graph.specs.Scan.{IsScanned, IsTouched}
+use Rattle.tup_graph.specs.Scan.{BeginsAt, IsScanned}
 use Rattle.tup_law_graph.proofs.Answering.{answer_more, answer_stable}
 use Rattle.tup_law_graph.proofs.Stable.{same_seen, stable_of}
 
 module _ (g new : GraphState) (files : List (Names × Stamp)) (config : Option Content) (is : IsScanned g files config new) where
   abbrev Root : ℕ → Type 0
-  Root root = (is_flagged g root ≡ true) ⊎ IsTouched new root
+  Root = BeginsAt g new
 
   -- who asked an output of a flagged rule is flagged
   pub scan_upward : (number other : ℕ) (rule reader : Rule) (run : RunRecord) (path : Names) (given : Option Stamp) → IsRuleAt new number rule → is_flagged new number ≡ true
@@ -35,7 +35,7 @@ module _ (g new : GraphState) (files : List (Names × Stamp)) (config : Option C
       further (reads, over) = (suc reads, (number, rule, over, here, (path, (run, given, ran, asked), wrote)))
 
 module _ (known : List Content) (g new : GraphState) (files : List (Names × Stamp)) (config : Option Content) (is : IsScanned g files config new) where
-  not_root : (number : ℕ) → is_flagged new number ≡ false → (is_flagged g number ≡ true) ⊎ IsTouched new number → ⊥
+  not_root : (number : ℕ) → is_flagged new number ≡ false → BeginsAt g new number → ⊥
   not_root number unflagged root = true≢false (sym ((is.flags number).1 (zero, root)) ∙ unflagged)
 
   pub was_unflagged : (number : ℕ) → is_flagged new number ≡ false → is_flagged g number ≡ false
@@ -48,11 +48,11 @@ module _ (known : List Content) (g new : GraphState) (files : List (Names × Sta
   stamps : (number : ℕ) (rule : Rule) (run : RunRecord) → IsUnflagged new number rule → finite.get new.runs number ≡ Some run → HasSeenStamps new rule run
   stamps number rule run unflagged ran = record {
     asked = λ path given asked. stable_of (same_seen given (finite.get new.seen path))
-        (λ apart. not_root number unflagged.unflagged (inr (rule, run, unflagged.here, ran, inl (path, given, asked, apart))));
+        (λ apart. not_root number unflagged.unflagged (inr (inl (rule, run, unflagged.here, ran, inl (path, given, asked, apart)))));
     wrote = λ at d less.
         (let file = slice_index_or run.writes at d in
         sym (stable_of (same_seen (Some file.1) (finite.get new.seen file.0))
-        (λ apart. not_root number unflagged.unflagged (inr (rule, run, unflagged.here, ran, inr (file.0, file.1, All-contains_itself run.writes at d less, apart))))));
+        (λ apart. not_root number unflagged.unflagged (inr (inl (rule, run, unflagged.here, ran, inr (file.0, file.1, All-contains_itself run.writes at d less, apart)))))));
   }
 
   read : (dir : Names) → IsSource (source new) (tupfile dir) → is_created new dir ≡ false → is_some (finite.get new.readings dir) ≡ true

@@ -12,15 +12,18 @@ use Rattle.tup_rule.specs.declared.rule.Rule.{Rule}
 use Rattle.tup_runner.specs.Next.{Next}
 use Rattle.tup_record.specs.declared.run.RunRecord.{RunRecord}
 use Rattle.tup_graph.specs.Above.{AboveOver}
-use Rattle.tup_graph.specs.Graph.{GraphState, is_flagged, is_rule}
+use Rattle.tup_graph.specs.Answers.{Sources}
+use Rattle.tup_graph.specs.Graph.{GraphState, is_flagged, is_rule, source}
 use Rattle.tup_graph.specs.Kept.{IsKept, IsRuleAt}
-use Rattle.tup_graph.specs.Reach.{stamp_in, HasRecord, IsChanged, IsReachRoot, ReachedOver, IsReached}
+use Rattle.tup_graph.specs.Reach.{source_in, stamp_in, HasRecord, IsChanged, IsReachRoot, ReachedOver, IsReached}
 use Rattle.tup_graph.specs.Records.{Language}
-use Rattle.tup_graph.specs.Scan.{IsScanned, IsTouched}
+use Rattle.tup_graph.specs.Scan.{BeginsAt, IsScanned, IsTouched}
+use Rattle.tup_graph.specs.Turned.{AskedTurned}
 use Rattle.tup_graph.proofs.Keeping.{has_run}
 use Rattle.tup_closure.specs.Readers.{AreRunsOfRules}
 use Rattle.tup_law_graph.specs.Linking.{HaveOwnNames}
 use Rattle.tup_law_graph.proofs.Scanning.{scan_upward}
+use Rattle.tup_law_graph.proofs.Turning.{sources_seen}
 
 -- the rule of a number that is one
 rule_there : (rules : List Rule) (number : ℕ) → number < length rules → (rule : Rule) × (slice_get rules number ≡ Some rule)
@@ -31,7 +34,7 @@ rule_there (first ∷ rules) (suc number) less = rule_there rules number (omega 
 module _ (next : Next) (language : Language) (known : List Content) (g scanned : GraphState) (files : List (Names × Stamp)) (config : Option Content) (tree : Tree)
     (kept : IsKept next language known g) (scan : IsScanned g files config scanned) (as_seen : (path : Names) → finite.get scanned.seen path ≡ stamp_in tree path) (own_names : HaveOwnNames g.rules) where
   abbrev Root : ℕ → Type 0
-  Root root = (is_flagged g root ≡ true) ⊎ IsTouched scanned root
+  Root = BeginsAt g scanned
 
   -- rules and records are those of the graph that was kept
   rule_in : (number : ℕ) (rule : Rule) → IsRuleAt scanned number rule → IsRuleAt g number rule
@@ -45,6 +48,10 @@ module _ (next : Next) (language : Language) (known : List Content) (g scanned :
 
   run_out : (number : ℕ) (run : RunRecord) → finite.get g.runs number ≡ Some run → finite.get scanned.runs number ≡ Some run
   run_out number run ran = (λ i. finite.get (scan.runs i) number) ∙ ran
+
+  -- the sources that are seen are those in the tree
+  sources_are : source scanned ≡ source_in g tree
+  sources_are = sources_seen g scanned tree scan.owned as_seen
 
   -- a rule has one number
   one_number : (number other : ℕ) (rule : Rule) → IsRuleAt g number rule → IsRuleAt g other rule → number ≡ other
@@ -60,16 +67,21 @@ module _ (next : Next) (language : Language) (known : List Content) (g scanned :
         ⊎ ((path : Names) × (given : Stamp) × Contains run.writes (path, given) × (Some given ≢ finite.get scanned.seen path)))
         → IsReached g tree g.rules number
     touched_reached number rule run here ran what =
-        (zero, (rule, rule_in number rule here, inr (inr (number, run, record { same = rule_in number rule here; run_of = run_in number run ran }, changed what))))
+        (zero, (rule, rule_in number rule here, inr (inr (number, run, record { same = rule_in number rule here; run_of = run_in number run ran }, inl (changed what)))))
       where
         changed : ((path : Names) × (given : Option Stamp) × (Contains run.asks (path, given) × (writes rule path ≡ false)) × (given ≢ finite.get scanned.seen path))
             ⊎ ((path : Names) × (given : Stamp) × Contains run.writes (path, given) × (Some given ≢ finite.get scanned.seen path)) → IsChanged tree rule run
         changed (inl (path, given, asked, apart)) = inl (path, given, asked, λ e. apart (e ∙ sym (as_seen path)))
         changed (inr (path, given, wrote, apart)) = inr (path, given, wrote, λ e. apart (e ∙ sym (as_seen path)))
 
+    turned_reached : (number : ℕ) (rule : Rule) (run : RunRecord) → IsRuleAt scanned number rule → finite.get scanned.runs number ≡ Some run → AskedTurned (source g) (source scanned) rule run → IsReached g tree g.rules number
+    turned_reached number rule run here ran told =
+        (zero, (rule, rule_in number rule here, inr (inr (number, run, record { same = rule_in number rule here; run_of = run_in number run ran }, inr (subst (λ (s : Sources). AskedTurned (source g) s rule run) sources_are told)))))
+
     above_reached : (reads number : ℕ) → AboveOver reads scanned Root number → IsReached g tree g.rules number
     above_reached zero number (inl flagged) = (let it = rule_of number (flags number flagged) in (zero, (it.0, it.1, inr (inl (number, it.1, inl flagged)))))
-    above_reached zero number (inr (rule, run, here, ran, what)) = touched_reached number rule run here ran what
+    above_reached zero number (inr (inl (rule, run, here, ran, what))) = touched_reached number rule run here ran what
+    above_reached zero number (inr (inr (rule, run, here, ran, told))) = turned_reached number rule run here ran told
     above_reached (suc reads) number (before, maker, over, maker_here, (path, (run, given, ran, asked), wrote)) =
         let ran_in = run_in number run ran in
         let it = rule_of number (runs number run ran_in) in
@@ -109,7 +121,10 @@ module _ (next : Next) (language : Language) (known : List Content) (g scanned :
   root_flagged number rule here (inl none) = absurd (none number here)
   root_flagged number rule here (inr (inl (other, there, inl flagged))) = flags_at number other rule here there (root_flags other (inl flagged))
   root_flagged number rule here (inr (inl (other, there, inr no_run))) = flags_at number other rule here there (root_flags other (inl (unrun_flagged other rule there no_run)))
-  root_flagged number rule here (inr (inr (other, run, has, changed))) = flags_at number other rule here has.same (root_flags other (inr (changed_touched other rule run has changed)))
+  root_flagged number rule here (inr (inr (other, run, has, inl changed))) = flags_at number other rule here has.same (root_flags other (inr (inl (changed_touched other rule run has changed))))
+  root_flagged number rule here (inr (inr (other, run, has, inr told))) =
+      flags_at number other rule here has.same
+      (root_flags other (inr (inr (rule, run, rule_out other rule has.same, run_out other run has.run_of, subst (λ (s : Sources). AskedTurned (source g) s rule run) (sym sources_are) told))))
 
   over_flagged : (reads number : ℕ) → ReachedOver reads g tree g.rules number → is_flagged scanned number ≡ true
   over_flagged zero number (rule, here, root) = root_flagged number rule here root

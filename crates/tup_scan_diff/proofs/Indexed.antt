@@ -10,7 +10,7 @@ use Rattle.std.proofs.lemmas.Bool.{true≢false}
 use Rattle.std.proofs.lemmas.List.{map-append}
 use Rattle.std.proofs.lemmas.List.Elements.{Contains-push, Contains-push_cases, Contains-append_left}
 use Rattle.tup_path.specs.Name.{Names}
-use Rattle.tup_path.specs.Order.{by_names, by_names-total}
+use Rattle.tup_path.specs.Order.{by_names, by_names-antisymmetric, by_names-total}
 use Rattle.tup_path.specs.Tree.{IsBelow}
 use Rattle.tup_path.proofs.Same.{by_names-decides}
 use Rattle.tup_stamp.specs.declared.Stamp.{Stamp}
@@ -93,24 +93,27 @@ no_sources g index = index_as (λ path. ⊥) (IsSourceAmong g []) (λ p never. a
     none : (p : Names) → Contains [] p → ⊥
     none p h = let less = h.1 in omega arith
 
-module _ (g : GraphState) (files : List (Names × Stamp)) (i : ℕ) (file d : Names × Stamp) (less : i < length files) (here : file ≡ get_or files i d) where
-  grown : map path_of (take (i + 1) files) ≡ map path_of (take i files) ++ file.0 ∷ []
-  grown = ap (map path_of) (taken files i file d less here) ∙ map-append path_of (take i files) (file ∷ [])
+module _ (g : GraphState) (files : List (Names × Stamp)) (file : Names × Stamp) where
+  abbrev more : List (Names × Stamp)
+  more = files ++ file ∷ []
 
-  longer : (p : Names) → IsSourceAmong g (take i files) p → IsSourceAmong g (take (i + 1) files) p
-  longer p (h, unowned) = (subst (λ (l : List Names). Contains l p) (sym grown) (Contains-append_left (map path_of (take i files)) (file.0 ∷ []) p h), unowned)
+  grown : map path_of more ≡ map path_of files ++ file.0 ∷ []
+  grown = map-append path_of files (file ∷ [])
 
-  shorter : (p : Names) → IsSourceAmong g (take (i + 1) files) p → IsSourceAmong g (take i files) p ⊎ ((file.0 ≡ p) × (is_owned g p ≡ false))
-  shorter p (h, unowned) = elim (Contains-push_cases (map path_of (take i files)) file.0 p (subst (λ (l : List Names). Contains l p) grown h)) [
+  longer : (p : Names) → IsSourceAmong g files p → IsSourceAmong g more p
+  longer p (h, unowned) = (subst (λ (l : List Names). Contains l p) (sym grown) (Contains-append_left (map path_of files) (file.0 ∷ []) p h), unowned)
+
+  shorter : (p : Names) → IsSourceAmong g more p → IsSourceAmong g files p ⊎ ((file.0 ≡ p) × (is_owned g p ≡ false))
+  shorter p (h, unowned) = elim (Contains-push_cases (map path_of files) file.0 p (subst (λ (l : List Names). Contains l p) grown h)) [
     | inl before ↦ inl (before, unowned)
     | inr last ↦ inr (last, unowned)
   ]
 
-  pub source_more : (old new : Index) → IsIndexOf (IsSourceAmong g (take i files)) old → IsAddedIf (is_owned g file.0) file.0 old new → IsIndexOf (IsSourceAmong g (take (i + 1) files)) new
-  source_more old new is = either (is_owned g file.0) refl
+  pub source_pushed : (old new : Index) → IsIndexOf (IsSourceAmong g files) old → IsAddedIf (is_owned g file.0) file.0 old new → IsIndexOf (IsSourceAmong g more) new
+  source_pushed old new is = either (is_owned g file.0) refl
     where
-      either : (b : Bool) → is_owned g file.0 ≡ b → IsAddedIf b file.0 old new → IsIndexOf (IsSourceAmong g (take (i + 1) files)) new
-      either true owned same = subst (IsIndexOf (IsSourceAmong g (take (i + 1) files))) (sym same) (record {
+      either : (b : Bool) → is_owned g file.0 ≡ b → IsAddedIf b file.0 old new → IsIndexOf (IsSourceAmong g more) new
+      either true owned same = subst (IsIndexOf (IsSourceAmong g more)) (sym same) (record {
         names = λ dir name. to (IsListed old.names (dir, name)) (dir ++ name ∷ []) (is.names dir name);
         tupfiles = λ dir. to (HasTupfile old dir) (tupfile dir) (is.tupfiles dir);
         folders = λ dir. (
@@ -119,18 +122,24 @@ module _ (g : GraphState) (files : List (Names × Stamp)) (i : ℕ) (file d : Na
         );
       })
         where
-          back : (p : Names) → IsSourceAmong g (take (i + 1) files) p → IsSourceAmong g (take i files) p
+          back : (p : Names) → IsSourceAmong g more p → IsSourceAmong g files p
           back p now = elim (shorter p now) [
             | inl before ↦ before
             | inr last ↦ absurd (true≢false (sym owned ∙ ap (is_owned g) last.0 ∙ last.1))
           ]
 
-          to : (P : Type 0) (p : Names) → (P ↔ IsSourceAmong g (take i files) p) → P ↔ IsSourceAmong g (take (i + 1) files) p
+          to : (P : Type 0) (p : Names) → (P ↔ IsSourceAmong g files p) → P ↔ IsSourceAmong g more p
           to P p h = (λ x. longer p (h.0 x), λ now. h.1 (back p now))
-      either false unowned adds = index_more (IsSourceAmong g (take i files)) (IsSourceAmong g (take (i + 1) files)) file.0 longer
-          (subst (λ (l : List Names). Contains l file.0) (sym grown) (Contains-push (map path_of (take i files)) file.0), unowned)
+      either false unowned adds = index_more (IsSourceAmong g files) (IsSourceAmong g more) file.0 longer
+          (subst (λ (l : List Names). Contains l file.0) (sym grown) (Contains-push (map path_of files) file.0), unowned)
           (λ p now. elim (shorter p now) [ inl before ↦ inl before | inr last ↦ inr last.0 ])
           old new is adds
+
+-- one more of the first of some files
+pub source_more : (g : GraphState) (files : List (Names × Stamp)) (i : ℕ) (file d : Names × Stamp) (old new : Index) → i < length files → file ≡ get_or files i d → IsIndexOf (IsSourceAmong g (take i files)) old
+    → IsAddedIf (is_owned g file.0) file.0 old new → IsIndexOf (IsSourceAmong g (take (i + 1) files)) new
+source_more g files i file d old new less here is adds =
+    subst (λ (l : List (Names × Stamp)). IsIndexOf (IsSourceAmong g l) new) (sym (taken files i file d less here)) (source_pushed g (take i files) file old new is adds)
 
 -- ---- all of them
 
@@ -162,6 +171,14 @@ module _ (g : GraphState) (files : List (Names × Stamp)) where
     where
       to : (P : Type 0) (p : Names) → (P ↔ IsSourceAmong g files p) → P ↔ IsSource (source (seeing g stamps)) p
       to P p h = (λ x. is_source p (h.0 x), λ now. h.1 (source_is p (is_owned g p) refl now))
+
+-- of those that a graph has seen
+pub index_of_seen : (g : GraphState) (index : Index) → IsIndexOf (IsSourceAmong g (finite.entries g.seen)) index → IsIndexOf (IsSource (source g)) index
+index_of_seen g index is = subst (λ (m : finite.FinMap by_names Stamp). IsIndexOf (IsSource (source (seeing g m))) index) seen_again (index_of_sources g (finite.entries g.seen) index is)
+  where
+    seen_again : finite.from_entries (finite.entries g.seen) ≡ g.seen
+    seen_again = finite.same_map by_names-total by_names-antisymmetric (finite.from_entries (finite.entries g.seen)) g.seen (λ q.
+        finite.get-from_entries by_names-total (finite.entries g.seen) q ∙ sym (finite.get-entries g.seen q))
 
 -- ---- folders that are there
 

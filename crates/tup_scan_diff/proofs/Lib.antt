@@ -15,3 +15,4 @@ pub mod Looking
 pub mod Founding
 pub mod Scanned
 pub mod Overlaid
+pub mod Folders

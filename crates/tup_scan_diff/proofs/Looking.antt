@@ -12,12 +12,14 @@ use Rattle.std.proofs.lemmas.List.Elements.{Contains-append_left, Contains-appen
 use Rattle.std.proofs.lemmas.Option.{none-some, same_Some}
 use Rattle.tup_path.specs.Name.{Names}
 use Rattle.tup_path.specs.Order.{by_names}
+use Rattle.tup_path.proofs.Same.{by_names-decides}
 use Rattle.tup_stamp.specs.declared.Stamp.{Stamp}
 use Rattle.tup_graph.specs.declared.edit.Edit.{Edit}
 use Rattle.tup_graph.specs.Above.{HasAsked}
 use Rattle.tup_graph.specs.Graph.{GraphState, is_flagged, is_rule}
 use Rattle.tup_graph.specs.Kept.{Asked}
-use Rattle.tup_graph.specs.Scan.{IsTouched}
+use Rattle.tup_graph.specs.Scan.{BeginsAt, IsTouched}
+use Rattle.tup_graph.specs.Turned.{IsTurnedRun}
 use Rattle.tup_graph.specs.Transactions.{seen_so}
 use Rattle.tup_readers.specs.Index.{HasWritten}
 use Rattle.tup_readers.specs.Suspects.{HasAllOthers}
@@ -27,8 +29,10 @@ use Rattle.tup_closure.specs.Grows.{Grows}
 use Rattle.tup_closure.proofs.Growing.{grows_as, grows_nothing, grows_on}
 use Rattle.tup_closure.proofs.Members.{contained, number-decides}
 use Rattle.tup_scan_diff.specs.Edits.{gone_edits, is_gone, is_news, is_same, news_edits, not_seen, seen_edits}
-use Rattle.tup_scan_diff.specs.Present.{seeing}
-use Rattle.tup_scan_diff.specs.Touched.{FindsRoots, IsScanRoot, IsUserOf, SeesOtherwise, UsesOneOf, file_of, record_of}
+use Rattle.tup_scan_diff.specs.Present.{graph_of, seeing, stamps_in}
+use Rattle.tup_scan_diff.specs.Touched.{AsksOneOf, FindsRoots, IsRootIn, IsUserOf, SeesOtherwise, UsesOneOf, file_of, record_of}
+use Rattle.tup_scan_diff.specs.Turned.{HasTurned}
+use Rattle.tup_scan_diff.specs.declared.present.Present.{Present}
 use Rattle.tup_scan_diff.proofs.Editing.{entry_found, same_is}
 
 -- ---- one after another
@@ -37,20 +41,31 @@ use Rattle.tup_scan_diff.proofs.Editing.{entry_found, same_is}
 abbrev pub HasEntry : List (ℕ × Unit {0}) → ℕ → Type 0
 HasEntry entries number = (flag : Unit {0}) × Contains entries (number, flag)
 
-module _ (g : GraphState) where
+-- a root is added
+pub root_pushed : {Root : Type 0} (old new : List ℕ) (number : ℕ) → new ≡ old ++ number ∷ [] → Root → Grows (λ n. (n ≡ number) × Root) (Contains old) (Contains new)
+root_pushed {Root} old new number is root = subst (λ (l : List ℕ). Grows (λ n. (n ≡ number) × Root) (Contains old) (Contains l)) (sym is) (record {
+  only = only;
+  all = λ n h. subst (Contains (old ++ number ∷ [])) (sym h.0) (Contains-push old number);
+  kept = λ n h. Contains-append_left old (number ∷ []) n h;
+})
+  where
+    only : (n : ℕ) → Contains (old ++ number ∷ []) n → Contains old n ⊎ ((n ≡ number) × Root)
+    only n h = elim (Contains-push_cases old number n h) [ inl before ↦ inl before | inr last ↦ inr (sym last, root) ]
+
+module _ (present : Present) where
   -- these were looked at
   abbrev Finds : (ℕ → Type 0) → (ℕ → Type 0) → (ℕ → Type 0) → Type 0
-  Finds Looked A B = Grows (λ n. Looked n × IsScanRoot g n) A B
+  Finds Looked A B = Grows (λ n. Looked n × IsRootIn present n) A B
 
   -- and more
   looked : {A B C P Q R : ℕ → Type 0} → ((n : ℕ) → R n → P n ⊎ Q n) → ((n : ℕ) → P n → R n) → ((n : ℕ) → Q n → R n) → Finds P A B → Finds Q B C → Finds R A C
   looked {A} {B} {C} {P} {Q} {R} cases left right one two = grows_as to from (grows_on one two)
     where
-      to : (n : ℕ) → (P n × IsScanRoot g n) ⊎ (Q n × IsScanRoot g n) → R n × IsScanRoot g n
+      to : (n : ℕ) → (P n × IsRootIn present n) ⊎ (Q n × IsRootIn present n) → R n × IsRootIn present n
       to n (inl h) = (left n h.0, h.1)
       to n (inr h) = (right n h.0, h.1)
 
-      from : (n : ℕ) → R n × IsScanRoot g n → (P n × IsScanRoot g n) ⊎ (Q n × IsScanRoot g n)
+      from : (n : ℕ) → R n × IsRootIn present n → (P n × IsRootIn present n) ⊎ (Q n × IsRootIn present n)
       from n h = elim (cases n h.0) [ inl p ↦ inl (p, h.1) | inr q ↦ inr (q, h.1) ]
 
   -- the same rules, told otherwise
@@ -68,16 +83,16 @@ module _ (g : GraphState) where
   no_entries = none_looked (λ n h. none_in (n, h.0) h.1)
 
   -- one was
-  at_one : {A B : ℕ → Type 0} (number : ℕ) → Grows (λ n. (n ≡ number) × IsScanRoot g number) A B → Finds (λ n. n ≡ number) A B
-  at_one number = grows_as (λ n h. (h.0, subst (IsScanRoot g) (sym h.0) h.1)) (λ n h. (h.0, subst (IsScanRoot g) h.0 h.1))
+  at_one : {A B : ℕ → Type 0} (number : ℕ) → Grows (λ n. (n ≡ number) × IsRootIn present number) A B → Finds (λ n. n ≡ number) A B
+  at_one number = grows_as (λ n h. (h.0, subst (IsRootIn present) (sym h.0) h.1)) (λ n h. (h.0, subst (IsRootIn present) h.0 h.1))
 
-  pub number_looked : {A B C : ℕ → Type 0} (list : List ℕ) (number : ℕ) → Finds (Contains list) A B → Grows (λ n. (n ≡ number) × IsScanRoot g number) B C → Finds (Contains (list ++ number ∷ [])) A C
+  pub number_looked : {A B C : ℕ → Type 0} (list : List ℕ) (number : ℕ) → Finds (Contains list) A B → Grows (λ n. (n ≡ number) × IsRootIn present number) B C → Finds (Contains (list ++ number ∷ [])) A C
   number_looked list number so_far one = looked cases (λ n. Contains-append_left list (number ∷ []) n) (λ n is. subst (Contains (list ++ number ∷ [])) (sym is) (Contains-push list number)) so_far (at_one number one)
     where
       cases : (n : ℕ) → Contains (list ++ number ∷ []) n → Contains list n ⊎ (n ≡ number)
       cases n h = elim (Contains-push_cases list number n h) [ inl before ↦ inl before | inr last ↦ inr (sym last) ]
 
-  pub entry_looked : {A B C : ℕ → Type 0} (entries : List (ℕ × Unit {0})) (number : ℕ) (flag : Unit {0}) → Finds (HasEntry entries) A B → Grows (λ n. (n ≡ number) × IsScanRoot g number) B C
+  pub entry_looked : {A B C : ℕ → Type 0} (entries : List (ℕ × Unit {0})) (number : ℕ) (flag : Unit {0}) → Finds (HasEntry entries) A B → Grows (λ n. (n ≡ number) × IsRootIn present number) B C
       → Finds (HasEntry (entries ++ (number, flag) ∷ [])) A C
   entry_looked entries number flag so_far one = looked cases (λ n h. (h.0, Contains-append_left entries ((number, flag) ∷ []) (n, h.0) h.1)) last_one so_far (at_one number one)
     where
@@ -91,20 +106,20 @@ module _ (g : GraphState) where
   pub none_below : {A : ℕ → Type 0} → Finds (λ n. n < 0) A A
   none_below = none_looked (λ n h. omega (arith, h))
 
-  pub next_looked : {A B C : ℕ → Type 0} (number : ℕ) → Finds (λ n. n < number) A B → Grows (λ n. (n ≡ number) × IsScanRoot g number) B C → Finds (λ n. n < number + 1) A C
+  pub next_looked : {A B C : ℕ → Type 0} (number : ℕ) → Finds (λ n. n < number) A B → Grows (λ n. (n ≡ number) × IsRootIn present number) B C → Finds (λ n. n < number + 1) A C
   next_looked number so_far one = looked cases (λ n h. omega (arith, h)) (λ n is. omega (arith, is)) so_far (at_one number one)
     where
       cases : (n : ℕ) → n < number + 1 → n < number ⊎ (n ≡ number)
       cases n h = elim (cases_lt n number) [ inl less ↦ inl less | inr not_less ↦ inr (omega (arith, h, not_less)) ]
 
-  pub every_looked : {A B : ℕ → Type 0} (count : ℕ) → count ≡ length g.rules → Finds (λ n. n < count) A B → Finds (λ n. is_rule g n ≡ true) A B
-  every_looked {A} {B} count all so_far = looked_as (λ n. (lt-ltb n (length g.rules), ltb-true n (length g.rules))) (subst (λ (k : ℕ). Finds (λ n. n < k) A B) all so_far)
+  pub every_looked : {A B : ℕ → Type 0} (count : ℕ) → count ≡ length present.nodes.now.rules → Finds (λ n. n < count) A B → Finds (λ n. is_rule present.nodes.now n ≡ true) A B
+  every_looked {A} {B} count all so_far = looked_as (λ n. (lt-ltb n (length present.nodes.now.rules), ltb-true n (length present.nodes.now.rules))) (subst (λ (k : ℕ). Finds (λ n. n < k) A B) all so_far)
 
   -- all roots are among all rules
-  pub among_every : (Start Found : List ℕ) → Start ≡ [] → Finds (λ n. is_rule g n ≡ true) (Contains Start) (Contains Found) → (n : ℕ) → Contains Found n ↔ IsScanRoot g n
+  pub among_every : (Start Found : List ℕ) → Start ≡ [] → Finds (λ n. is_rule present.nodes.now n ≡ true) (Contains Start) (Contains Found) → (n : ℕ) → Contains Found n ↔ IsRootIn present n
   among_every Start Found empty every n = (to, λ root. every.all n (root.0, root))
     where
-      to : Contains Found n → IsScanRoot g n
+      to : Contains Found n → IsRootIn present n
       to h = elim (every.only n h) [ inl before ↦ absurd (none_in n (subst (λ (l : List ℕ). Contains l n) empty before)) | inr found ↦ found.1 ]
 
   pub users_looked : {A B C P Q : ℕ → Type 0} (h : GraphState) (path : Names) → ((n : ℕ) → P n ↔ HasAsked h n path) → ((n : ℕ) → Q n ↔ HasWritten h n path) → Finds P A B → Finds Q B C → Finds (IsUserOf h path) A C
@@ -145,6 +160,19 @@ module _ (g : GraphState) where
 
   pub edits_taken : {A B : ℕ → Type 0} (h : GraphState) (edits : List Edit) (i : ℕ) → length edits ≤ i → Finds (UsesOneOf h (take i edits)) A B → Finds (UsesOneOf h edits) A B
   edits_taken {A} {B} h edits i whole = subst (λ (l : List Edit). Finds (UsesOneOf h l) A B) (take_all i edits whole)
+
+  -- path after path
+  pub no_paths : {A : ℕ → Type 0} (h : GraphState) → Finds (AsksOneOf h []) A A
+  no_paths h = none_looked (λ n (path, there, asked). none_in path there)
+
+  pub path_looked : {A B C : ℕ → Type 0} (h : GraphState) (paths : List Names) (path : Names) → Finds (AsksOneOf h paths) A B → Finds (λ n. HasAsked h n path) B C → Finds (AsksOneOf h (paths ++ path ∷ [])) A C
+  path_looked h paths path = looked cases (λ n (q, there, asked). (q, Contains-append_left paths (path ∷ []) q there, asked)) (λ n asked. (path, Contains-push paths path, asked))
+    where
+      cases : (n : ℕ) → AsksOneOf h (paths ++ path ∷ []) n → AsksOneOf h paths n ⊎ HasAsked h n path
+      cases n (q, there, asked) = elim (Contains-push_cases paths path q there) [
+        | inl before ↦ inl (q, before, asked)
+        | inr last ↦ inr (subst (HasAsked h n) (sym last) asked)
+      ]
 
 -- ---- flags
 
@@ -219,28 +247,42 @@ module _ (g : GraphState) (stamps : finite.FinMap by_names Stamp) where
           | inr (edit, there, sees) ↦ inr (edit, there, path, sees, inr (run, given, ran, in_it))
         ]
 
-    -- all roots were found
-    pub roots_found : (Start Flagged Suspected Found : List ℕ) → Start ≡ [] → FindsRoots (seeing g stamps) (λ n. is_flagged g n ≡ true) Start Flagged → FindsRoots (seeing g stamps) (Contains suspects.keys) Flagged Suspected
-        → FindsRoots (seeing g stamps) (UsesOneOf g (seen_edits g stamps)) Suspected Found → (n : ℕ) → Contains Found n ↔ IsScanRoot (seeing g stamps) n
-    roots_found Start Flagged Suspected Found empty flags suspected users n = (to, from)
-      where
-        in_start : Contains Start n → IsScanRoot (seeing g stamps) n
-        in_start h = absurd (none_in n (subst (λ (l : List ℕ). Contains l n) empty h))
+-- ---- all roots were found
 
-        in_flagged : Contains Flagged n → IsScanRoot (seeing g stamps) n
-        in_flagged h = elim (flags.only n h) [ inl before ↦ in_start before | inr found ↦ found.1 ]
+module _ (present : Present) (turned : HasTurned present) (suspects : BTreeSet ℕ) (all : HasAllOthers present.nodes.now.seen present.nodes.now.runs suspects) where
+  abbrev nodes : GraphState
+  nodes = present.nodes.now
 
-        in_suspected : Contains Suspected n → IsScanRoot (seeing g stamps) n
-        in_suspected h = elim (suspected.only n h) [ inl before ↦ in_flagged before | inr found ↦ found.1 ]
+  -- who was told of a folder that came or went asks one of them
+  turned_found : (n : ℕ) → IsTurnedRun nodes (graph_of present) n → AsksOneOf nodes present.turned.keys n
+  turned_found n (rule, run, here, ran, (path, asked, is)) = (path, contained by_names by_names-decides present.turned path ((turned path).1 is), (run, None, ran, asked.0))
 
-        to : Contains Found n → IsScanRoot (seeing g stamps) n
-        to h = elim (users.only n h) [ inl before ↦ in_suspected before | inr found ↦ found.1 ]
+  pub roots_found : (Start Flagged Suspected Used Found : List ℕ) → Start ≡ [] → FindsRoots present (λ n. is_flagged nodes n ≡ true) Start Flagged → FindsRoots present (Contains suspects.keys) Flagged Suspected
+      → FindsRoots present (UsesOneOf nodes (seen_edits nodes (stamps_in present))) Suspected Used → FindsRoots present (AsksOneOf nodes present.turned.keys) Used Found → (n : ℕ) → Contains Found n ↔ IsRootIn present n
+  roots_found Start Flagged Suspected Used Found empty flags suspected users askers n = (to, from)
+    where
+      in_start : Contains Start n → IsRootIn present n
+      in_start h = absurd (none_in n (subst (λ (l : List ℕ). Contains l n) empty h))
 
-        from : IsScanRoot (seeing g stamps) n → Contains Found n
-        from root = elim root.1 [
-          | inl flagged ↦ users.kept n (suspected.kept n (flags.all n (flagged, root)))
-          | inr touched ↦ elim (touched_found n touched) [
-            | inl suspect ↦ users.kept n (suspected.all n (suspect, root))
-            | inr uses ↦ users.all n (uses, root)
-          ]
-        ]
+      in_flagged : Contains Flagged n → IsRootIn present n
+      in_flagged h = elim (flags.only n h) [ inl before ↦ in_start before | inr found ↦ found.1 ]
+
+      in_suspected : Contains Suspected n → IsRootIn present n
+      in_suspected h = elim (suspected.only n h) [ inl before ↦ in_flagged before | inr found ↦ found.1 ]
+
+      in_used : Contains Used n → IsRootIn present n
+      in_used h = elim (users.only n h) [ inl before ↦ in_suspected before | inr found ↦ found.1 ]
+
+      to : Contains Found n → IsRootIn present n
+      to h = elim (askers.only n h) [ inl before ↦ in_used before | inr found ↦ found.1 ]
+
+      begun : IsRootIn present n → BeginsAt nodes (graph_of present) n → Contains Found n
+      begun root (inl flagged) = askers.kept n (users.kept n (suspected.kept n (flags.all n (flagged, root))))
+      begun root (inr (inl touched)) = elim (touched_found nodes (stamps_in present) suspects all n touched) [
+        | inl suspect ↦ askers.kept n (users.kept n (suspected.all n (suspect, root)))
+        | inr uses ↦ askers.kept n (users.all n (uses, root))
+      ]
+      begun root (inr (inr told)) = askers.all n (turned_found n told, root)
+
+      from : IsRootIn present n → Contains Found n
+      from root = begun root root.1

@@ -20,7 +20,7 @@ use Rattle.tup_graph.specs.Changes.{once_made}
 use Rattle.tup_graph.specs.Edits.{change_of, edited_by, HasSpelling, IsTaken}
 use Rattle.tup_graph.specs.Graph.{GraphState, is_created, is_flagged, is_rule}
 use Rattle.tup_graph.specs.Opening.{IsGraphOf}
-use Rattle.tup_graph.specs.Scan.{IsScanned, IsStale, IsTouched}
+use Rattle.tup_graph.specs.Scan.{BeginsAt, IsScanned, IsStale}
 use Rattle.tup_graph.specs.Transactions.{seen_so, flag_edits}
 use Rattle.tup_graph.proofs.Leading.{edits_read}
 use Rattle.tup_graph.proofs.Needed.{needed_read}
@@ -28,9 +28,8 @@ use Rattle.tup_closure.specs.Readers.{AreRunsOfRules}
 use Rattle.tup_closure.proofs.Members.{in_list, listed, number-decides}
 use Rattle.tup_closure.proofs.Stepping.{above_as}
 use Rattle.tup_closure.proofs.Stored.{stored}
-use Rattle.tup_scan_diff.specs.Edits.{AreScanEdits, create_edits, modify_edits, is_gone, is_news, not_seen, seen_edits, to_read}
+use Rattle.tup_scan_diff.specs.Edits.{AreScanEdits, BeginsScan, create_edits, modify_edits, is_gone, is_news, not_seen, seen_edits, to_read}
 use Rattle.tup_scan_diff.specs.Present.{seeing}
-use Rattle.tup_scan_diff.specs.Touched.{IsScanRoot}
 use Rattle.tup_scan_diff.proofs.Editing.{scan_leaves, missing_put, created_after, flags_after, filter_in}
 
 or_cases : (a b : Bool) → (a || b) ≡ true → (a ≡ true) ⊎ (b ≡ true)
@@ -57,20 +56,21 @@ module _ (g : GraphState) (files : List (Names × Stamp)) (config : Option Conte
   flagged n = missing_put nat_cmp nat_cmp_total number-decides g.flags are.numbers n
 
   abbrev Root : ℕ → Type 0
-  Root root = (is_flagged g root ≡ true) ⊎ IsTouched after root
+  Root = BeginsAt g after
 
-  root_of : (n : ℕ) → IsScanRoot seen_now n → Root n
-  root_of n (rule, flagged_or_touched) = flagged_or_touched
+  root_of : (n : ℕ) → BeginsScan g files n → Root n
+  root_of n (rule, begins) = begins
 
   is_rule_at : (n : ℕ) (rule : Rule) → slice_get g.rules n ≡ Some rule → is_rule g n ≡ true
   is_rule_at n rule here = lt-ltb n (length g.rules) (slice_get_within g.rules n rule here)
 
-  found : (reads n : ℕ) → AboveOver reads after Root n → (is_flagged g n ≡ true) ⊎ IsAbove seen_now (IsScanRoot seen_now) n
+  found : (reads n : ℕ) → AboveOver reads after Root n → (is_flagged g n ≡ true) ⊎ IsAbove seen_now (BeginsScan g files) n
   found zero n (inl flag) = inl flag
-  found zero n (inr touched) = inr (zero, (is_rule_at n touched.0 touched.2, inr touched))
+  found zero n (inr (inl touched)) = inr (zero, (is_rule_at n touched.0 touched.2, inr (inl touched)))
+  found zero n (inr (inr turned)) = inr (zero, (is_rule_at n turned.0 turned.2, inr (inr turned)))
   found (suc reads) n (before, maker, over, here, read) = inr (further (found reads before over))
     where
-      further : (is_flagged g before ≡ true) ⊎ IsAbove seen_now (IsScanRoot seen_now) before → IsAbove seen_now (IsScanRoot seen_now) n
+      further : (is_flagged g before ≡ true) ⊎ IsAbove seen_now (BeginsScan g files) before → IsAbove seen_now (BeginsScan g files) n
       further (inl flag) = (suc zero, (before, maker, (is_rule_at before maker here, inl flag), here, read))
       further (inr (reads_before, over_before)) = (suc reads_before, (before, maker, over_before, here, read))
 
@@ -80,13 +80,13 @@ module _ (g : GraphState) (files : List (Names × Stamp)) (config : Option Conte
     | inr there ↦ raised ((are.above n).0 (listed nat_cmp number-decides are.numbers n there))
   ]
     where
-      raised : IsAbove seen_now (IsScanRoot seen_now) n → IsAbove after Root n
-      raised (reads, over) = (reads, above_as seen_now after (IsScanRoot seen_now) Root refl refl root_of reads n over)
+      raised : IsAbove seen_now (BeginsScan g files) n → IsAbove after Root n
+      raised (reads, over) = (reads, above_as seen_now after (BeginsScan g files) Root refl refl root_of reads n over)
 
   flags_from : (n : ℕ) → IsAbove after Root n → is_flagged after n ≡ true
   flags_from n (reads, over) = flagged n ∙ told (found reads n over)
     where
-      told : (is_flagged g n ≡ true) ⊎ IsAbove seen_now (IsScanRoot seen_now) n → (is_flagged g n || list_any (eq_by_cmp nat_cmp n) are.numbers) ≡ true
+      told : (is_flagged g n ≡ true) ⊎ IsAbove seen_now (BeginsScan g files) n → (is_flagged g n || list_any (eq_by_cmp nat_cmp n) are.numbers) ≡ true
       told (inl flag) = or_left (is_flagged g n) (list_any (eq_by_cmp nat_cmp n) are.numbers) flag
       told (inr over_it) = or_right (is_flagged g n) (list_any (eq_by_cmp nat_cmp n) are.numbers) (in_list nat_cmp number-decides are.numbers n ((are.above n).1 over_it))
 
@@ -174,8 +174,8 @@ module _ (entries : Standing) (g : GraphState) (files : List (Names × Stamp)) (
   abbrev unflagged : ℕ → Bool
   unflagged number = not (is_flagged g number)
 
-  raised : (n : ℕ) → IsAbove found_now (IsScanRoot found_now) n → is_rule g n ≡ true
-  raised n (reads, over) = above_rules found_now (stored entries g is) (IsScanRoot found_now) (λ m root. root.0) reads n over
+  raised : (n : ℕ) → IsAbove found_now (BeginsScan g files) n → is_rule g n ≡ true
+  raised n (reads, over) = above_rules found_now (stored entries g is) (BeginsScan g files) (λ m root. root.0) reads n over
 
   named : (n : ℕ) → Contains (filter unflagged are.numbers) n → is_rule g n ≡ true
   named n h = raised n ((are.above n).0 (filter_in unflagged are.numbers n h).0)

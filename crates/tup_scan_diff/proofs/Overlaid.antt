@@ -23,6 +23,7 @@ use Rattle.tup_graph.specs.Transactions.{seen_so}
 use Rattle.tup_readers.proofs.Entries.{in_front}
 use Rattle.tup_scan_diff.specs.Edits.{is_same, is_news, is_gone, not_seen, news_edits, seen_edits}
 use Rattle.tup_scan_diff.specs.Present.{or_else, over}
+use Rattle.tup_scan_diff.specs.Turned.{AtSamePaths}
 use Rattle.tup_scan_diff.proofs.Editing.{above_head, apart, found_entry, left_of, none_pass, right_of, t_true}
 use Rattle.tup_scan_diff.proofs.Stamped.{or_last, find_push}
 
@@ -170,13 +171,25 @@ one_more shows given seen old new files left after i file d before less here is 
     either (inl (same, kept)) = subst (λ (m : StampMap). IsEdited seen m (take i files ++ file ∷ []) after) (sym kept) (more_seen seen old (take i files) after file.0 before file.1 was same)
     either (inr put) = subst (λ (m : StampMap). IsEdited seen m (take i files ++ file ∷ []) after) (sym put) (more_edited seen old (take i files) after file.0 before file.1 was)
 
+-- what was passed is all that was seen
+seen_done : (seen changed : StampMap) (files left : List Entry) (is : IsEdited seen changed files left) → left ≡ [] → (q : Names) → finite.get seen q ≡ find by_names q is.done
+seen_done seen changed files left is none q = finite.get-entries seen q ∙ ap (find by_names q) (is.split ∙ ap (λ (l : List Entry). is.done ++ l) none ∙ append-nil is.done)
+
 -- all of them
 pub all_edited : (seen changed : StampMap) (files left : List Entry) → IsEdited seen changed files left → left ≡ [] → over seen changed ≡ finite.from_entries files
 all_edited seen changed files left is none = finite.same_map by_names-total by_names-antisymmetric _ _ (λ q.
     get_over seen changed q
-    ∙ ap (or_else (finite.get changed q)) (finite.get-entries seen q ∙ ap (find by_names q) (is.split ∙ ap (λ (l : List Entry). is.done ++ l) none ∙ append-nil is.done))
+    ∙ ap (or_else (finite.get changed q)) (seen_done seen changed files left is none q)
     ∙ sym (is.stamps q)
     ∙ sym (finite.get-from_entries by_names-total files q))
+
+-- at the paths of those that were seen
+pub all_there : (seen changed : StampMap) (files left : List Entry) → IsEdited seen changed files left → left ≡ [] → AtSamePaths seen (over seen changed)
+all_there seen changed files left is none q =
+    ap (λ (m : StampMap). is_some (finite.get m q)) (all_edited seen changed files left is none)
+    ∙ ap is_some (finite.get-from_entries by_names-total files q)
+    ∙ is.keys q
+    ∙ ap is_some (sym (seen_done seen changed files left is none q))
 
 -- ---- the edits of such files
 

@@ -57,9 +57,9 @@ create_edits g dirs = map to_read (filter (λ dir. not (is_created g dir)) dirs)
 abbrev pub modify_edits : GraphState → List ℕ → List Edit
 modify_edits g numbers = flag_edits (filter (λ number. not (is_flagged g number)) numbers)
 
--- a rule with which a scan that found these files begins: it is flagged, or its run is touched
+-- a rule with which a scan that found these files begins
 abbrev pub BeginsScan : GraphState → List (Names × Stamp) → ℕ → Type 0
-BeginsScan g files = IsScanRoot (seeing g (finite.from_entries files))
+BeginsScan g files = IsScanRoot g (seeing g (finite.from_entries files))
 
 -- all of it: of each key one edit, and none that changes nothing
 pub record AreScanEdits (g : GraphState) (files : List (Names × Stamp)) (config : Option Content) (edits : List Edit) : Type 0 where
@@ -67,6 +67,6 @@ pub record AreScanEdits (g : GraphState) (files : List (Names × Stamp)) (config
   pub numbers : List ℕ
   pub stale : (dir : Names) → Contains dirs dir ↔ IsStale (seeing g (finite.from_entries files)) config dir
   pub dirs_once : IsStrictlySortedBy by_names dirs
-  pub above : (number : ℕ) → Contains numbers number ↔ IsAbove (seeing g (finite.from_entries files)) (IsScanRoot (seeing g (finite.from_entries files))) number
+  pub above : (number : ℕ) → Contains numbers number ↔ IsAbove (seeing g (finite.from_entries files)) (BeginsScan g files) number
   pub numbers_once : IsStrictlySortedBy nat_cmp numbers
   pub all : edits ≡ seen_edits g (finite.from_entries files) ++ create_edits g dirs ++ modify_edits g numbers

@@ -8,4 +8,5 @@ pub mod Made
 pub mod Told
 pub mod Stale
 pub mod Edits
+pub mod Turned
 pub mod Touched

@@ -8,12 +8,14 @@ use Rattle.tup_rule.specs.declared.rule.Rule.{Rule}
 use Rattle.tup_record.specs.declared.record.Record.{Record}
 use Rattle.tup_record.specs.declared.record.Record.TheVariants as records
 use Rattle.tup_graph.specs.Above.{HasAsked}
-use Rattle.tup_graph.specs.Graph.{GraphState, is_rule, is_flagged}
-use Rattle.tup_graph.specs.Scan.{IsTouched}
+use Rattle.tup_graph.specs.Graph.{GraphState, is_rule}
+use Rattle.tup_graph.specs.Scan.{BeginsAt}
 use Rattle.tup_graph.specs.declared.edit.Edit.{Edit}
 use Rattle.tup_graph.specs.declared.edit.Edit.TheVariants.{Put, Remove}
 use Rattle.tup_readers.specs.Index.{HasWritten}
 use Rattle.tup_closure.specs.Grows.{Grows}
+use Rattle.tup_scan_diff.specs.Present.{graph_of}
+use Rattle.tup_scan_diff.specs.declared.present.Present.{Present}
 
 -- one of some asks, outputs of the rule aside, was told another stamp
 abbrev pub AsksOther : GraphState → Rule → List (Names × Option Stamp) → Type 0
@@ -24,9 +26,13 @@ AsksOther g rule asks =
 abbrev pub WroteOther : GraphState → List (Names × Stamp) → Type 0
 WroteOther g files = (path : Names) × (given : Stamp) × Contains files (path, given) × (Some given ≢ finite.get g.seen path)
 
--- a rule that is flagged, or whose run is touched
-abbrev pub IsScanRoot : GraphState → ℕ → Type 0
-IsScanRoot g number = (is_rule g number ≡ true) × ((is_flagged g number ≡ true) ⊎ IsTouched g number)
+-- a rule with which a scan begins: it is flagged, its run is touched, or that was told of a folder that came or went
+abbrev pub IsScanRoot : GraphState → GraphState → ℕ → Type 0
+IsScanRoot old new number = (is_rule new number ≡ true) × BeginsAt old new number
+
+-- such a rule of what a scan found
+abbrev pub IsRootIn : Present → ℕ → Type 0
+IsRootIn present = IsScanRoot present.nodes.now (graph_of present)
 
 -- the record of a rule asks a path, or wrote it
 abbrev pub IsUserOf : GraphState → Names → ℕ → Type 0
@@ -50,6 +56,10 @@ SeesOtherwise edit path = file_of (record_of edit) ≡ Some path
 abbrev pub UsesOneOf : GraphState → List Edit → ℕ → Type 0
 UsesOneOf g edits number = (edit : Edit) × Contains edits edit × (path : Names) × SeesOtherwise edit path × IsUserOf g path number
 
+-- the record of a rule asks one of some paths
+abbrev pub AsksOneOf : GraphState → List Names → ℕ → Type 0
+AsksOneOf g paths number = (path : Names) × Contains paths path × HasAsked g number path
+
 -- rules with those added, among these that were looked at, with which a scan begins
-abbrev pub FindsRoots : GraphState → (ℕ → Type 0) → List ℕ → List ℕ → Type 0
-FindsRoots g Looked old new = Grows (λ number. Looked number × IsScanRoot g number) (Contains old) (Contains new)
+abbrev pub FindsRoots : Present → (ℕ → Type 0) → List ℕ → List ℕ → Type 0
+FindsRoots present Looked old new = Grows (λ number. Looked number × IsRootIn present number) (Contains old) (Contains new)

@@ -5,7 +5,8 @@ ghost use Rattle.tup_path.specs.Name.{Names};
 ghost use Rattle.tup_path.specs.Order.{by_names};
 ghost use Rattle.tup_path.specs.Tree.{IsBelow};
 ghost use Rattle.tup_closure.specs.Grows.{Grows};
-ghost use Rattle.tup_graph.specs.Graph.{is_owned};
+ghost use Rattle.tup_graph.specs.Answers.{IsSource};
+ghost use Rattle.tup_graph.specs.Graph.{is_owned, source};
 ghost use Rattle.tup_closure.specs.Lists.{IsListed, last_of};
 ghost use Rattle.tup_scan_diff.specs.Sets.{Has};
 ghost use Rattle.tup_scan_diff.specs.Index.{AddsFile, HasLast, HasTupfile, IsAddedIf, IsBeside, IsClosed, IsIndexOf, IsLastOf, IsParted, IsSourceAmong};
@@ -42,6 +43,19 @@ impl Index {
         let mut index = Index::empty(alloc);
         for (path, _) in files {
             index.add_source(alloc, &mut owners, path)?;
+        }
+        Ok(index)
+    }
+
+    /// The sources that a graph has seen.
+    pub(crate) fn seen(alloc: Global, nodes: &Nodes) -> Result<Index, GraphFault>
+        ensures index { IfOk result (IsIndexOf (IsSource (source nodes.now))) }
+        ensures memory { IfErr result (λ fault. fault ≡ GraphFault.Memory) }
+    {
+        let mut owners = nodes.owners();
+        let mut index = Index::empty(alloc);
+        for (file, _) in nodes.files() {
+            index.add_source(alloc, &mut owners, file)?;
         }
         Ok(index)
     }

@@ -4,12 +4,14 @@ ghost use Rattle.std.specs.FinMap as finite;
 ghost use Rattle.tup_graph.specs.Answers.{tup_config};
 ghost use Rattle.tup_graph.specs.Graph.{source};
 ghost use Rattle.tup_scan_diff.specs.Present.{IsPresent, graph_of, seeing, stamps_from, stamps_in};
+ghost use Rattle.tup_scan_diff.specs.Turned.{HasTurned};
 
 use crate::index::Index;
 use crate::made::Made;
 use crate::parents::parents_of;
 use crate::settings::Settings;
 use crate::stamps::Stamps;
+use crate::turned::turned_folders;
 use std::alloc::Global;
 use std::collections::BTreeSet;
 use tup_graph::{GraphFault, Nodes};
@@ -24,6 +26,8 @@ pub(crate) struct Present<'g> {
     pub(crate) stamps: Stamps,
     /// The sources by their folders.
     pub(crate) index: Index,
+    /// The folders of sources that came or went since the graph was scanned.
+    pub(crate) turned: BTreeSet<Path>,
     /// The folders in which a folder of sources stands.
     pub(crate) parents: BTreeSet<Path>,
     /// The outputs of the readings by their folders.
@@ -41,10 +45,12 @@ impl<'g> Present<'g> {
         ensures stamps { IfOk result
             (λ present. stamps_in present ≡ finite.from_entries seen.now.files) }
         ensures present { IfOk result (IsPresent seen.now.config) }
+        ensures turned { IfOk result HasTurned }
         ensures memory { IfErr result (λ fault. fault ≡ GraphFault.Memory) }
     {
         let stamps = Stamps::of(alloc, nodes, seen.files.as_slice())?;
         let index = Index::new(alloc, nodes, seen.files.as_slice())?;
+        let turned = turned_folders(alloc, nodes, &stamps, &index.folders)?;
         let parents = parents_of(alloc, &index.folders)?;
         let made = Made::new(alloc, nodes)?;
         let stamp = config_stamp(alloc, nodes, &stamps)?;
@@ -53,6 +59,7 @@ impl<'g> Present<'g> {
             nodes,
             stamps,
             index,
+            turned,
             parents,
             made,
             settings,

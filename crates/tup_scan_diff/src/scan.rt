@@ -14,16 +14,18 @@ use tup_scan::Seen;
 
 /// What taking note of a scan does to a graph: files are seen with the stamps that the scan found, and no others are;
 /// rules that recorded reads lead to from one that is flagged, or whose run asked (own outputs aside) or wrote another
-/// content, are to be run; and folders are to be read that have a Tupfile and no reading, or a reading and no Tupfile, or
-/// whose reading was told what isn't so any more. What tup.config sets is read in the one that the scan found, and where
-/// that has a fault each folder that asked it is to be read.
+/// content, or was told that no file stands where a folder of sources came or went, are to be run; and folders are to be
+/// read that have a Tupfile and no reading, or a reading and no Tupfile, or whose reading was told what isn't so any more.
+/// What tup.config sets is read in the one that the scan found, and where that has a fault each folder that asked it is to be
+/// read.
 ///
 /// Of each key there is one edit, and none that changes nothing. It looks at the files, at the readings, at the rules that
 /// are flagged or whose records may not tell what was seen before, and at those that use a path which has another stamp
-/// now: a rule that is none of these isn't looked at. Where a reading has many outputs, their names are put into a set once, so
-/// that what another reading asked about a path there takes one lookup.
+/// now, or ask for a folder that came or went: a rule that is none of these isn't looked at. Folders are compared where a
+/// file came or went, and not else. Where a reading has many outputs, their names are put into a set once, so that what another
+/// reading asked about a path there takes one lookup.
 ///
-/// From the rules that are flagged or touched it takes the steps of `above`; after a refusal it has taken no more.
+/// From the rules with which the scan begins it takes the steps of `above`; after a refusal it has taken no more.
 pub fn note_scan<L: Ledger>(
     alloc: Global,
     graph: &Indexed,

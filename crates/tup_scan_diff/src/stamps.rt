@@ -4,6 +4,7 @@ ghost use Rattle.std.specs.FinMap as finite;
 ghost use Rattle.std.specs.Map.Iter.{deref_pair};
 ghost use Rattle.std.specs.Option.{option_map};
 ghost use Rattle.tup_scan_diff.specs.Present.{over, stamps_from};
+ghost use Rattle.tup_scan_diff.specs.Turned.{AreAtSamePaths, AtSamePaths};
 
 use std::alloc::Global;
 use tup_graph::{GraphFault, Nodes};
@@ -29,6 +30,7 @@ impl Stamps {
     ) -> Result<Stamps, GraphFault>
         ensures stamps { IfOk result
             (λ stamps. stamps_from nodes.now stamps ≡ finite.from_entries files.now) }
+        ensures paths { IfOk result (AreAtSamePaths nodes.now) }
         ensures memory { IfErr result (λ fault. fault ≡ GraphFault.Memory) }
     {
         match edited(alloc, nodes, files)? {
@@ -59,6 +61,8 @@ fn edited(
 ) -> Result<Option<ByPath<Stamp>>, GraphFault>
     ensures edited { IfOk result (λ found. IfSome found
         (λ stamps. over nodes.now.seen stamps ≡ finite.from_entries files.now)) }
+    ensures paths { IfOk result (λ found. IfSome found
+        (λ stamps. AtSamePaths nodes.now.seen (over nodes.now.seen stamps))) }
     ensures memory { IfErr result (λ fault. fault ≡ GraphFault.Memory) }
 {
     let mut stamps = ByPath::new(alloc);

@@ -1,12 +1,14 @@
-//! Whether the run of a rule asked or wrote another content.
+//! Whether the run of a rule asked or wrote another content, or was told of a folder that came or went.
 ghost use Rattle.std.specs.Prelude.{◌≡◌, ◌≢◌, false};
 ghost use Rattle.std.specs.Bool.{Decides};
 ghost use Rattle.std.specs.FinMap as finite;
 ghost use Rattle.tup_rule.specs.Rule.{writes};
 ghost use Rattle.tup_graph.specs.Graph.{is_rule};
 ghost use Rattle.tup_graph.specs.Scan.{IsTouched};
+ghost use Rattle.tup_graph.specs.Turned.{IsTurnedRun};
 ghost use Rattle.tup_scan_diff.specs.Present.{graph_of, stamps_in};
-ghost use Rattle.tup_scan_diff.specs.Touched.{AsksOther, WroteOther, IsScanRoot};
+ghost use Rattle.tup_scan_diff.specs.Touched.{AsksOther, WroteOther, IsRootIn};
+ghost use Rattle.tup_scan_diff.specs.Turned.{AsksTurned, HasTurned, IsToldTurned};
 
 use crate::present::Present;
 use tup_path::Path;
@@ -14,9 +16,10 @@ use tup_rule::Rule;
 use tup_stamp::Stamp;
 
 impl Present<'_> {
-    /// Whether a rule is flagged or touched.
+    /// Whether a rule is flagged, touched or turned.
     pub(crate) fn is_root(&self, number: u32) -> bool
-        ensures { Decides result (IsScanRoot (graph_of self.now) number) }
+        requires { HasTurned self.now }
+        ensures { Decides result (IsRootIn self.now number) }
     {
         if !self.is_rule(number) {
             return false;
@@ -24,7 +27,10 @@ impl Present<'_> {
         if self.nodes.flagged(number) {
             return true;
         }
-        self.is_touched(number)
+        if self.is_touched(number) {
+            return true;
+        }
+        self.is_turned(number)
     }
 
     /// Whether a rule has this number.
@@ -83,6 +89,47 @@ impl Present<'_> {
             }
         }
         false
+    }
+
+    /// Whether the run of a rule was told that no file stands where a folder came or went.
+    fn is_turned(&self, number: u32) -> bool
+        requires { HasTurned self.now }
+        ensures { Decides result (IsTurnedRun self.now.nodes.now (graph_of self.now) number) }
+    {
+        let Some(rule) = self.nodes.rules().get(number as usize) else {
+            return false;
+        };
+        let Some(run) = self.nodes.run_of(number) else {
+            return false;
+        };
+        self.asks_turned(rule, run.asks.as_slice())
+    }
+
+    /// Whether one of some asks, outputs of the rule aside, was told that no file stands where a folder came or went.
+    fn asks_turned(&self, rule: &Rule, asks: &[(Path, Option<Stamp>)]) -> bool
+        requires { HasTurned self.now }
+        ensures { Decides result (AsksTurned self.now rule.now asks.now) }
+    {
+        for (path, given) in asks {
+            if self.is_told_turned(rule, path, *given) {
+                return true;
+            }
+        }
+        false
+    }
+
+    /// Whether a path is no output of a rule, was told to have no file, and is a folder that came or went.
+    fn is_told_turned(&self, rule: &Rule, path: &Path, given: Option<Stamp>) -> bool
+        requires { HasTurned self.now }
+        ensures { Decides result (IsToldTurned self.now rule.now path.now given) }
+    {
+        if given.is_some() {
+            return false;
+        }
+        if !self.turned.contains(path) {
+            return false;
+        }
+        !rule.writes(path)
     }
 
     /// Whether a path has this stamp now, or no file.

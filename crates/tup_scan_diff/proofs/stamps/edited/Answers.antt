@@ -7,7 +7,7 @@ use Rattle.std.proofs.lemmas.List.{take_all}
 use Rattle.tup_path.specs.Name.{Names}
 use Rattle.tup_path.specs.Order.{by_names}
 use Rattle.tup_stamp.specs.declared.Stamp.{Stamp}
-use Rattle.tup_scan_diff.proofs.Overlaid.{IsEdited, all_edited, none_edited_yet, one_more}
+use Rattle.tup_scan_diff.proofs.Overlaid.{IsEdited, all_edited, all_there, none_edited_yet, one_more}
 use Rattle.tup_scan_diff.proofs.stamps.edited.Goals as goal
 
 pub loop-path-preserved : goal.loop-path-preserved
@@ -26,5 +26,12 @@ pub returns-in-None-clause-edited : goal.returns-in-None-clause-edited
 returns-in-None-clause-edited c =
     let seen = c.args.nodes.now.seen in
     all_edited seen c.loop-path.stamps c.args.files.now c.loop-path.left
+    (subst (λ (l : List (Names × Stamp)). IsEdited seen c.loop-path.stamps l c.loop-path.left) (take_all c.loop-path.path-index c.args.files.now c.loop-path-test.false) c.loop-path.invariant)
+    c.in-None.ensures.steps.0
+
+pub returns-in-None-clause-paths : goal.returns-in-None-clause-paths
+returns-in-None-clause-paths c =
+    let seen = c.args.nodes.now.seen in
+    all_there seen c.loop-path.stamps c.args.files.now c.loop-path.left
     (subst (λ (l : List (Names × Stamp)). IsEdited seen c.loop-path.stamps l c.loop-path.left) (take_all c.loop-path.path-index c.args.files.now c.loop-path-test.false) c.loop-path.invariant)
     c.in-None.ensures.steps.0

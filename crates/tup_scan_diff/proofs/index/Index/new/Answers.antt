@@ -12,7 +12,7 @@ loop-path-preserved c =
     let file = c.loop-path-item.result in
     let before = c.loop-path.invariant in
     record {
-      index = source_more c.args.nodes.now c.args.files.now c.loop-path.path-index file file c.loop-path-test.true c.loop-path-item.is c.loop-path.index c.add_source.new.self before.index
+      index = source_more c.args.nodes.now c.args.files.now c.loop-path.path-index file file c.loop-path.index c.add_source.new.self c.loop-path-test.true c.loop-path-item.is before.index
           (subst (λ (g : GraphState). IsAddedIf (is_owned g file.0) file.0 c.loop-path.index c.add_source.new.self) before.owners c.in_ok-add_source.ensures.added);
       owners = c.in_ok-add_source.ensures.same ∙ before.owners;
       known = c.in_ok-add_source.ensures.known;
