@@ -1,5 +1,7 @@
 pub mod Once
 pub mod Names
+pub mod Folders
+pub mod Linked
 pub mod Said
 pub mod Acts
 pub mod Watch

@@ -60,6 +60,10 @@ is_looking name =
     bytes_eq name (codes "lstat") || bytes_eq name (codes "readlink") || bytes_eq name (codes "readlinkat") || bytes_eq name (codes "lchown")
     || bytes_eq name (codes "lgetxattr") || bytes_eq name (codes "llistxattr") || bytes_eq name (codes "lsetxattr") || bytes_eq name (codes "lremovexattr")
 
+-- calls that read where a link leads
+abbrev pub is_reading_link : List ℕ → Bool
+is_reading_link name = bytes_eq name (codes "readlink") || bytes_eq name (codes "readlinkat")
+
 -- whether a flag is among words
 abbrev pub has : List ℕ → List (List ℕ) → Bool
 has flag words = list_any (λ word. bytes_eq word flag) words

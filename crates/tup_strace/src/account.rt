@@ -3,7 +3,9 @@ ghost use Rattle.std.specs.Prelude.{◌≡◌, OnOk, IfOk};
 ghost use Rattle.tup_strace.specs.Account as specs;
 ghost use Rattle.tup_strace.specs.Account.{with_step, account_of};
 ghost use Rattle.tup_strace.specs.Once.{is_among};
+ghost use Rattle.tup_strace.specs.declared.act.Answer.TheVariants.{Unclear};
 
+use crate::act::Answer;
 use crate::once::Once;
 use std::alloc::{AllocError, Global};
 use tup_path::Path;
@@ -11,8 +13,8 @@ use tup_path::Path;
 /// What a command does to a path.
 #[derive(Drop)]
 pub enum Step {
-    /// It asks for what is there.
-    Ask(Path),
+    /// It asks for what is there, and is told so.
+    Ask(Path, Answer),
     /// It makes or overwrites what is there.
     Write(Path),
     /// It asks for what is there, and may have changed it.
@@ -32,6 +34,10 @@ pub struct Account {
     pub touched: Once,
     /// What it surely wrote, made or removed; it isn't asked for afterwards.
     pub own: Once,
+    /// What it was told of that something is there.
+    pub found: Once,
+    /// What it was told of that nothing is there.
+    pub missed: Once,
 }
 
 /// The account of what was done, step by step.
@@ -54,6 +60,8 @@ impl Account {
             asks: Once::new(alloc),
             touched: Once::new(alloc),
             own: Once::new(alloc),
+            found: Once::new(alloc),
+            missed: Once::new(alloc),
         }
     }
 
@@ -62,7 +70,7 @@ impl Account {
         ensures { OnOk result (self.new ≡ with_step self.old step.now) }
     {
         match step {
-            Step::Ask(path) => self.ask(path),
+            Step::Ask(path, answer) => self.ask(path, *answer),
             Step::Write(path) => self.write(path),
             Step::Change(path) => self.change(path),
             Step::Remove(path) => self.remove(path),
@@ -77,15 +85,19 @@ impl Account {
         self.own.contains(path)
     }
 
-    /// Adds an ask.
-    fn ask(&mut self, path: &Path) -> Result<(), AllocError>
-        ensures { OnOk result (self.new ≡ specs.asked self.old path.now) }
+    /// Adds an ask, with what it was told.
+    fn ask(&mut self, path: &Path, answer: Answer) -> Result<(), AllocError>
+        ensures { OnOk result (self.new ≡ specs.asked self.old path.now answer) }
     {
         if self.is_own(path) {
-            Ok(())
-        } else {
-            self.asks.add(path)
+            return Ok(());
         }
+        match answer {
+            Answer::Found => self.found.add(path)?,
+            Answer::Missed => self.missed.add(path)?,
+            Answer::Unclear => {}
+        }
+        self.asks.add(path)
     }
 
     /// Adds a write.
@@ -98,17 +110,17 @@ impl Account {
 
     /// Adds an ask, and what may be a write.
     fn change(&mut self, path: &Path) -> Result<(), AllocError>
-        ensures { OnOk result (self.new ≡ specs.touched (specs.asked self.old path.now) path.now) }
+        ensures { OnOk result (self.new ≡ specs.touched (specs.asked self.old path.now Unclear) path.now) }
     {
-        self.ask(path)?;
+        self.ask(path, Answer::Unclear)?;
         self.touched.add(path)
     }
 
     /// Adds a removal.
     fn remove(&mut self, path: &Path) -> Result<(), AllocError>
-        ensures { OnOk result (self.new ≡ specs.written (specs.asked self.old path.now) path.now) }
+        ensures { OnOk result (self.new ≡ specs.written (specs.asked self.old path.now Unclear) path.now) }
     {
-        self.ask(path)?;
+        self.ask(path, Answer::Unclear)?;
         self.write(path)
     }
 
@@ -117,9 +129,9 @@ impl Account {
         ensures { OnOk result (self.new ≡ specs.moved self.old from.now to.now) }
     {
         if *from == *to {
-            return self.ask(from);
+            return self.ask(from, Answer::Unclear);
         }
-        self.ask(from)?;
+        self.ask(from, Answer::Unclear)?;
         self.write(to)?;
         self.write(from)
     }

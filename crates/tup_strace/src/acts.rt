@@ -3,10 +3,10 @@ ghost use Rattle.std.specs.Prelude.{◌≡◌, ◌++◌, [], OnOk, IfOk, unwrap_
 ghost use Rattle.tup_strace.specs.Acts as specs;
 ghost use Rattle.tup_strace.specs.Acts.{acts_of};
 
-use crate::act::Act;
+use crate::act::{Act, Answer};
 use crate::names::{
     has, is_binding, is_creating, is_cutting, is_linking, is_looking, is_making, is_moving,
-    is_opening, is_pointing, is_removing, is_running,
+    is_opening, is_pointing, is_reading_link, is_removing, is_running,
 };
 use crate::said::Said;
 use std::alloc::{AllocError, Global};
@@ -42,13 +42,13 @@ impl Acts {
         if is_running(name) {
             self.run(alloc, one)
         } else if is_pointing(name) {
-            self.ask(alloc, two, false)
+            self.ask(alloc, two, false, Answer::Unclear)
         } else if is_moving(name) || is_linking(name) {
-            self.ask(alloc, one, false)?;
-            self.ask(alloc, two, false)
+            self.ask(alloc, one, false, Answer::Unclear)?;
+            self.ask(alloc, two, false, Answer::Unclear)
         } else {
             let follows = follows(name, said) && !is_removing(name);
-            self.ask(alloc, one, follows)
+            self.ask(alloc, one, follows, answer_of(name, said))
         }
     }
 
@@ -66,7 +66,7 @@ impl Acts {
         } else if is_running(name) {
             self.run(alloc, place)
         } else if is_cutting(name) {
-            self.ask(alloc, place, true)?;
+            self.ask(alloc, place, true, Answer::Unclear)?;
             self.write(alloc, place, true)
         } else {
             self.renamed(alloc, name, said)
@@ -81,16 +81,17 @@ impl Acts {
         if is_moving(name) {
             self.moved(alloc, said)
         } else if is_linking(name) {
-            self.ask(alloc, one, has(b"AT_SYMLINK_FOLLOW", said.words.as_slice()))?;
-            self.write(alloc, two, false)
+            let follows = has(b"AT_SYMLINK_FOLLOW", said.words.as_slice());
+            self.ask(alloc, one, follows, Answer::Unclear)?;
+            self.make(alloc, two)
         } else if is_pointing(name) {
-            self.write(alloc, two, false)
+            self.make(alloc, two)
         } else if is_removing(name) {
             self.remove(alloc, one)
         } else if is_making(name) {
-            self.write(alloc, one, false)
+            self.make(alloc, one)
         } else {
-            self.ask(alloc, one, follows(name, said))
+            self.ask(alloc, one, follows(name, said), Answer::Found)
         }
     }
 
@@ -98,13 +99,13 @@ impl Acts {
     fn moved(&mut self, alloc: Global, said: &Said) -> Result<(), AllocError>
         ensures { OnOk result (self.new.list ≡ self.old.list ++ specs.moved said.now) }
     {
-        if has(b"RENAME_EXCHANGE", said.words.as_slice()) {
-            self.ask(alloc, second(said), false)?;
+        if is_telling(said.words.as_slice()) {
+            self.ask(alloc, second(said), false, Answer::Unclear)?;
         }
         self.rename(alloc, first(said), second(said))
     }
 
-    /// Adds what opening a file at a place does, by its flags.
+    /// Adds what opening a file at a place does that says so.
     fn open(
         &mut self,
         alloc: Global,
@@ -115,30 +116,82 @@ impl Acts {
         ensures { OnOk result (self.new.list
             ≡ self.old.list ++ specs.opening said.now.words place.now follows) }
     {
-        let words = said.words.as_slice();
-        if is_no_file(words) {
+        self.open_by(alloc, said.words.as_slice(), place, follows)
+    }
+
+    /// Adds what opening a place does, by its flags.
+    fn open_by(
+        &mut self,
+        alloc: Global,
+        words: &[Bytes],
+        place: &[u8],
+        follows: bool,
+    ) -> Result<(), AllocError>
+        ensures { OnOk result (self.new.list
+            ≡ self.old.list ++ specs.opening words.now place.now follows) }
+    {
+        if has(b"O_TMPFILE", words) {
             Ok(())
+        } else if has(b"O_DIRECTORY", words) {
+            self.ask(alloc, place, follows, Answer::Found)
+        } else {
+            self.open_file(alloc, words, place, follows)
+        }
+    }
+
+    /// Adds what opening a file that has a name does, by its flags.
+    fn open_file(
+        &mut self,
+        alloc: Global,
+        words: &[Bytes],
+        place: &[u8],
+        follows: bool,
+    ) -> Result<(), AllocError>
+        ensures { OnOk result (self.new.list
+            ≡ self.old.list ++ specs.opening_file words.now place.now follows) }
+    {
+        if is_made(words) {
+            self.make(alloc, place)
         } else if is_new(words) {
-            self.write(alloc, place, follows && !has(b"O_EXCL", words))
+            self.write(alloc, place, follows)
         } else if has(b"O_TRUNC", words) {
-            self.ask(alloc, place, follows)?;
+            self.ask(alloc, place, follows, Answer::Unclear)?;
             self.write(alloc, place, follows)
         } else if is_writing(words) {
             self.change(alloc, place, follows)
         } else {
-            self.ask(alloc, place, follows)
+            self.ask(alloc, place, follows, Answer::Found)
         }
     }
 
+    /// Adds that a place is asked for and made, if there is one: had something been there, it couldn't have been made.
+    fn make(&mut self, alloc: Global, place: &[u8]) -> Result<(), AllocError>
+        ensures { OnOk result (self.new.list ≡ self.old.list ++ specs.make place.now) }
+    {
+        self.ask(alloc, place, false, Answer::Unclear)?;
+        self.write(alloc, place, false)
+    }
+
     /// Adds that a place is asked for, if there is one.
-    fn ask(&mut self, alloc: Global, place: &[u8], follows: bool) -> Result<(), AllocError>
-        ensures { OnOk result (self.new.list ≡ self.old.list ++ specs.ask place.now follows) }
+    fn ask(
+        &mut self,
+        alloc: Global,
+        place: &[u8],
+        follows: bool,
+        answer: Answer,
+    ) -> Result<(), AllocError>
+        ensures { OnOk result
+            (self.new.list ≡ self.old.list ++ specs.ask place.now follows answer) }
     {
         if place.is_empty() {
             return Ok(());
         }
         let place = copied(alloc, place)?;
-        self.list.push(Act::Ask { place, follows })?;
+        self.list.push(Act::Ask {
+            place,
+            follows,
+            answer,
+        })?;
         Ok(())
     }
 
@@ -242,11 +295,48 @@ fn follows(name: &[u8], said: &Said) -> bool
     !(is_looking(name) || has(b"AT_SYMLINK_NOFOLLOW", words) || has(b"O_NOFOLLOW", words))
 }
 
+/// What a call was told that failed.
+fn answer_of(name: &[u8], said: &Said) -> Answer
+    ensures { result ≡ specs.answer_of name.now said.now.fault }
+{
+    match &said.fault {
+        Some(fault) => told(name, fault.as_slice()),
+        None => Answer::Unclear,
+    }
+}
+
+/// What an error says of the place to a call that failed with it.
+fn told(name: &[u8], fault: &[u8]) -> Answer
+    ensures { result ≡ specs.told name.now fault.now }
+{
+    if fault == b"ENOENT".as_slice() {
+        Answer::Missed
+    } else if is_reading_link(name) && fault == b"EINVAL".as_slice() {
+        Answer::Found
+    } else {
+        Answer::Unclear
+    }
+}
+
+/// Whether a name was moved by what was at its new place: nothing, or something that took its old one.
+fn is_telling(words: &[Bytes]) -> bool
+    ensures { result ≡ specs.is_telling words.now }
+{
+    has(b"RENAME_NOREPLACE", words) || has(b"RENAME_EXCHANGE", words)
+}
+
+/// Whether a file was made where nothing was.
+fn is_made(words: &[Bytes]) -> bool
+    ensures { result ≡ specs.is_made words.now }
+{
+    has(b"O_CREAT", words) && has(b"O_EXCL", words)
+}
+
 /// Whether a file was made, or was emptied before.
 fn is_new(words: &[Bytes]) -> bool
     ensures { result ≡ specs.is_new words.now }
 {
-    has(b"O_CREAT", words) && (has(b"O_TRUNC", words) || has(b"O_EXCL", words))
+    has(b"O_CREAT", words) && has(b"O_TRUNC", words)
 }
 
 /// Whether what is in a file may be changed.
@@ -265,13 +355,6 @@ fn is_structured(words: &[Bytes]) -> bool
     ensures { result ≡ specs.is_structured words.now }
 {
     has(b"{flags=O_WRONLY", words) || has(b"{flags=O_RDWR", words)
-}
-
-/// Whether it is a folder that was opened, or a file without a name.
-fn is_no_file(words: &[Bytes]) -> bool
-    ensures { result ≡ specs.is_no_file words.now }
-{
-    has(b"O_DIRECTORY", words) || has(b"O_TMPFILE", words)
 }
 
 /// Whether a call gives a socket an address that is no name of a file.

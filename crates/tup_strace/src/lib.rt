@@ -10,14 +10,17 @@
 mod account;
 mod act;
 mod acts;
+mod by_process;
+mod folders;
 mod laws;
+mod linked;
 mod names;
 mod once;
 mod said;
 mod watch;
 
 pub use account::{Account, Step, accounted};
-pub use act::Act;
+pub use act::{Act, Answer};
 pub use laws::accounts_tell;
 pub use once::Once;
 pub use watch::acts_of;

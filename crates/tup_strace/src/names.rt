@@ -118,6 +118,13 @@ pub(crate) fn is_looking(name: &[u8]) -> bool
         || name == b"lremovexattr".as_slice()
 }
 
+/// Whether a call reads where a link leads.
+pub(crate) fn is_reading_link(name: &[u8]) -> bool
+    ensures { result ≡ specs.is_reading_link name.now }
+{
+    name == b"readlink".as_slice() || name == b"readlinkat".as_slice()
+}
+
 /// Whether a flag is among words.
 pub(crate) fn has(flag: &[u8], words: &[Bytes]) -> bool
     ensures { result ≡ specs.has flag.now words.now }

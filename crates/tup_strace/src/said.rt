@@ -2,6 +2,8 @@
 ghost use Rattle.std.specs.Prelude.{◌≡◌, ◌++◌, ◌∷◌, [], IfOk, OnOk, unwrap_or};
 ghost use Rattle.tup_strace.specs.Said.{is_whole as whole_test, place_from as place_named, nothing_said, based, naming, wording, in_arguments, in_outcome, in_opened, with_token, said_of};
 
+use crate::folders::Folders;
+use crate::linked::led;
 use std::alloc::{AllocError, Global};
 use tup_path::{Bytes, Items};
 use tup_trace::Token;
@@ -31,16 +33,23 @@ pub(crate) struct Said {
     pub(crate) outcome: Option<Bytes>,
     /// The path of the descriptor that it gave.
     pub(crate) opened: Option<Bytes>,
+    /// The word right behind its result: of a call that failed, the name of its error.
+    pub(crate) fault: Option<Bytes>,
 }
 
 impl Said {
-    /// What a call with these parts says in this folder.
-    pub(crate) fn of(alloc: Global, folder: &[u8], parts: &[Token]) -> Result<Said, AllocError>
-        ensures { IfOk result (λ said. said ≡ said_of folder.now parts.now) }
+    /// What a call of a process with these parts says, where the processes work in these folders.
+    pub(crate) fn of(
+        alloc: Global,
+        folders: &Folders,
+        process: &Bytes,
+        parts: &[Token],
+    ) -> Result<Said, AllocError>
+        ensures { IfOk result (λ said. said ≡ said_of folders.now process.now parts.now) }
     {
         let mut said = Said::nothing(alloc);
         for part in parts {
-            said.read(alloc, folder, part)?;
+            said.read(alloc, folders, process, part)?;
         }
         Ok(said)
     }
@@ -56,15 +65,23 @@ impl Said {
             base: None,
             outcome: None,
             opened: None,
+            fault: None,
         }
     }
 
     /// Reads a part.
-    fn read(&mut self, alloc: Global, folder: &[u8], part: &Token) -> Result<(), AllocError>
-        ensures { OnOk result (self.new ≡ with_token folder.now self.old part.now) }
+    fn read(
+        &mut self,
+        alloc: Global,
+        folders: &Folders,
+        process: &Bytes,
+        part: &Token,
+    ) -> Result<(), AllocError>
+        ensures { OnOk result
+            (self.new ≡ with_token folders.now process.now self.old part.now) }
     {
         match self.stretch {
-            Stretch::Arguments => self.argument(alloc, folder, part),
+            Stretch::Arguments => self.argument(alloc, folders, process, part),
             Stretch::Outcome => self.outcome(part),
             Stretch::Opened => self.opened(part),
             Stretch::Over => Ok(()),
@@ -72,12 +89,19 @@ impl Said {
     }
 
     /// Reads a part of the arguments.
-    fn argument(&mut self, alloc: Global, folder: &[u8], part: &Token) -> Result<(), AllocError>
-        ensures { OnOk result (self.new ≡ in_arguments folder.now self.old part.now) }
+    fn argument(
+        &mut self,
+        alloc: Global,
+        folders: &Folders,
+        process: &Bytes,
+        part: &Token,
+    ) -> Result<(), AllocError>
+        ensures { OnOk result
+            (self.new ≡ in_arguments folders.now process.now self.old part.now) }
     {
         match part {
             Token::Word(word) => self.word(word),
-            Token::Quoted(text) => self.name(alloc, folder, text.as_slice()),
+            Token::Quoted(text) => self.name(alloc, folders, process, text.as_slice()),
             Token::Place(path) => self.start(path),
         }
     }
@@ -97,13 +121,20 @@ impl Said {
     }
 
     /// Reads a text that names a place.
-    fn name(&mut self, alloc: Global, folder: &[u8], text: &[u8]) -> Result<(), AllocError>
-        ensures { OnOk result (self.new ≡ naming folder.now self.old text.now) }
+    fn name(
+        &mut self,
+        alloc: Global,
+        folders: &Folders,
+        process: &Bytes,
+        text: &[u8],
+    ) -> Result<(), AllocError>
+        ensures { OnOk result (self.new ≡ naming folders.now process.now self.old text.now) }
     {
         let place = match &self.base {
             Some(base) => place_from(alloc, base.as_slice(), text)?,
-            None => place_from(alloc, folder, text)?,
+            None => place_from(alloc, folders.folder_of(process), text)?,
         };
+        let place = led(alloc, folders, process, place)?;
         self.places.push(place)?;
         self.base = None;
         Ok(())
@@ -135,12 +166,14 @@ impl Said {
         Ok(())
     }
 
-    /// Reads the path of the descriptor that the call gave.
+    /// Reads the path of the descriptor that the call gave, or the name of its error.
     fn opened(&mut self, part: &Token) -> Result<(), AllocError>
         ensures { OnOk result (self.new ≡ in_opened self.old part.now) }
     {
-        if let Token::Place(path) = part {
-            self.opened = Some(path.clone()?);
+        match part {
+            Token::Place(path) => self.opened = Some(path.clone()?),
+            Token::Word(word) => self.fault = Some(word.clone()?),
+            Token::Quoted(_) => {}
         }
         self.stretch = Stretch::Over;
         Ok(())

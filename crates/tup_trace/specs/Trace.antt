@@ -1,7 +1,8 @@
 -- How a trace is read. Each line has the number of a process and the name of a call in front, or a note that the call which
--- this process began is resumed; a call that only began has a note among its parts.
-use Rattle.std.specs.Prelude.{◌≡◌, ◌<◌, length, slice_index_or, ℕ, suc, ◌==◌, nat_lt, bytes_eq, codes, Bool, false, if◌then◌else◌, List, [], ◌∷◌, ◌++◌, Option, Some, None, Result, Ok, Err, find, remove}
-use Rattle.std.specs.List.{list_any, position_or_len}
+-- this process began is resumed; a call that only began has a note among its parts. A thread that runs a program takes the
+-- number of its process, and a line says so before its call is resumed.
+use Rattle.std.specs.Prelude.{◌≡◌, ◌<◌, length, slice_index_or, ℕ, suc, ◌==◌, nat_lt, bytes_eq, codes, nat_eq, ◌||◌, Bool, false, if◌then◌else◌, List, [], ◌∷◌, ◌++◌, Option, Some, None, Result, Ok, Err, find, remove}
+use Rattle.std.specs.List.{list_any, position_or_len, starts_with}
 use Rattle.tup_trace.specs.Line.{line_begun, read_byte, tokens_read, is_new}
 use Rattle.tup_trace.specs.declared.call.Call.{Call}
 use Rattle.tup_trace.specs.declared.fault.TraceFault.{TraceFault}
@@ -22,9 +23,9 @@ line_of (Word process ∷ Word name ∷ parts) = Some (line.Call (call process n
 line_of (Word process ∷ Place note ∷ parts) = Some (line.Rest (call process note parts))
 line_of other = None
 
--- the note that a call only began
+-- the note that a call only began; the call of a thread that runs a program ends under the number of its process
 abbrev pub is_note : Token → Bool
-is_note (Place note) = bytes_eq note (codes "unfinished ...")
+is_note (Place note) = bytes_eq note (codes "unfinished ...") || starts_with nat_eq note (codes "pid changed to ")
 is_note other = false
 
 -- whether these parts are of a call that only began
@@ -39,6 +40,38 @@ is_of process call = bytes_eq call.process process
 abbrev pub without : List ℕ → List Call → List Call
 without process calls = remove calls (position_or_len (is_of process) calls)
 
+-- the calls that began, once a process is known to resume none
+abbrev pub ended : List ℕ → List Call → List Call
+ended process begun = by (find (is_of process) begun)
+  where
+    by : Option Call → List Call
+    by None = begun
+    by (Some call) = without process begun
+
+-- the calls that began, once a thread runs a program as its process: what that one began is over, and what the thread began is its own
+abbrev pub renumbered : List ℕ → List ℕ → List Call → List Call
+renumbered process thread begun = by (find (is_of thread) (ended process begun))
+  where
+    by : Option Call → List Call
+    by None = ended process begun
+    by (Some began) = without thread (ended process begun) ++ call process began.name began.parts ∷ []
+
+-- the thread that is a process from now on: `superseded by execve in pid N`, as the tracer says of the process
+abbrev pub thread_of : Call → Option (List ℕ)
+thread_of note = if bytes_eq note.name (codes "+++") then of note.parts else None
+  where
+    of : List Token → Option (List ℕ)
+    of (Word what ∷ Word by ∷ Word call ∷ Word at ∷ Word unit ∷ Word thread ∷ more) = if bytes_eq what (codes "superseded") then Some thread else None
+    of other = None
+
+-- which calls are still to be resumed behind this one
+abbrev pub begun_after : List Call → Call → List Call
+begun_after begun said = by (thread_of said)
+  where
+    by : Option (List ℕ) → List Call
+    by (Some thread) = renumbered said.process thread begun
+    by None = if is_begun said.parts then begun ++ said ∷ [] else begun
+
 -- where the first call of a process stands
 pub record StandsAt (process : List ℕ) (calls : List Call) (place : ℕ) : Type 0 where
   pub within : place < length calls
@@ -47,10 +80,7 @@ pub record StandsAt (process : List ℕ) (calls : List Call) (place : ℕ) : Typ
 
 -- a call, whole or begun
 abbrev pub with_call : Trace → Call → Trace
-with_call trace call = record trace {
-  calls = trace.calls ++ call ∷ [];
-  begun = if is_begun call.parts then trace.begun ++ call ∷ [] else trace.begun;
-}
+with_call trace call = record trace { calls = trace.calls ++ call ∷ []; begun = begun_after trace.begun call }
 
 -- the rest of a call, behind what its process began
 abbrev pub with_rest : Trace → Call → Trace

@@ -1,6 +1,7 @@
 //! How a trace is read.
-ghost use Rattle.std.specs.Prelude.{◌≡◌, ◌⊎◌, ◌++◌, ◌∷◌, [], ℕ, Ok, Err, OnOk, IfOk, IfErr, IfNone, OnSome, MatchOption, None, find, position};
-ghost use Rattle.tup_trace.specs.Trace.{trace_begun, line_of as line_said, is_note as note_test, is_begun as begun_test, is_of, without, StandsAt, call as call_of, with_call, with_rest, joined, next_number, line_ended, followed, all_read, calls_of};
+ghost use Rattle.std.specs.Prelude.{◌≡◌, ◌⊎◌, ◌++◌, ◌∷◌, [], ℕ, Ok, Err, OnOk, IfOk, IfErr, IfNone, OnSome, MatchOption, None, find, position, Some};
+ghost use Rattle.std.specs.Option.{option_copied};
+ghost use Rattle.tup_trace.specs.Trace.{trace_begun, line_of as line_said, is_note as note_test, is_begun as begun_test, thread_of as thread_said, ended, renumbered, begun_after, is_of, without, StandsAt, call as call_of, with_call, with_rest, joined, next_number, line_ended, followed, all_read, calls_of};
 
 use crate::call::Call;
 use crate::fault::TraceFault;
@@ -96,21 +97,62 @@ impl Trace {
         ensures { OnOk result (self.new ≡ joined self.old line) }
     {
         match line {
-            Line::Call(call) => self.call(call),
+            Line::Call(call) => self.call(alloc, call),
             Line::Rest(rest) => self.rest(alloc, rest),
         }
     }
 
-    /// Adds a call, whole or begun.
-    fn call(&mut self, call: Call) -> Result<(), AllocError>
+    /// Adds a call, whole or begun, or the note that a thread has another number now.
+    fn call(&mut self, alloc: Global, call: Call) -> Result<(), AllocError>
         ensures { OnOk result (self.new ≡ with_call self.old call) }
     {
-        if is_begun(call.parts.as_slice()) {
-            let begun = call.clone()?;
-            self.begun.push(begun)?;
-        }
+        self.begin(alloc, &call)?;
         self.calls.push(call)?;
         Ok(())
+    }
+
+    /// Notes which calls are still to be resumed after a call.
+    fn begin(&mut self, alloc: Global, call: &Call) -> Result<(), AllocError>
+        ensures { OnOk result (self.new
+            ≡ record self.old { begun = begun_after self.old.begun call.now }) }
+    {
+        match thread_of(call) {
+            Some(thread) => self.renumber(alloc, &call.process, thread),
+            None if is_begun(call.parts.as_slice()) => {
+                let begun = call.clone()?;
+                self.begun.push(begun)?;
+                Ok(())
+            }
+            None => Ok(()),
+        }
+    }
+
+    /// Notes that a thread runs a program as its process from now on: what that process began is over, and what the thread
+    /// began is the process's.
+    fn renumber(&mut self, alloc: Global, process: &Bytes, thread: &Bytes) -> Result<(), AllocError>
+        ensures { OnOk result (self.new
+            ≡ record self.old { begun = renumbered process.now thread.now self.old.begun }) }
+    {
+        self.end(alloc, process);
+        let Some(call) = self.take(alloc, thread) else {
+            return Ok(());
+        };
+        let process = process.clone()?;
+        self.begun.push(Call {
+            process,
+            name: call.name,
+            parts: call.parts,
+        })?;
+        Ok(())
+    }
+
+    /// Forgets what a process began: it isn't resumed.
+    fn end(&mut self, alloc: Global, process: &Bytes)
+        ensures { self.new ≡ record self.old { begun = ended process.now self.old.begun } }
+    {
+        match self.take(alloc, process) {
+            Some(_) | None => {}
+        }
     }
 
     /// Adds the rest of a call to what began.
@@ -210,13 +252,37 @@ fn is_begun(parts: &[Token]) -> bool
     parts.iter().any(is_note)
 }
 
-/// Whether a part is the note that a call only began.
+/// Whether a part is the note that a call only began: its end comes on a later line, perhaps under another number.
 fn is_note(token: &Token) -> bool
     ensures { result ≡ note_test token.now }
 {
     match token {
-        Token::Place(note) => note.as_slice() == b"unfinished ...".as_slice(),
+        Token::Place(note) => {
+            let note = note.as_slice();
+            note == b"unfinished ...".as_slice() || note.starts_with(b"pid changed to ")
+        }
         _ => false,
+    }
+}
+
+/// The thread that is this process from now on, since it runs a program.
+fn thread_of(call: &Call) -> Option<&Bytes>
+    ensures { option_copied result ≡ thread_said call.now }
+{
+    if call.name.as_slice() != b"+++".as_slice() {
+        return None;
+    }
+    match call.parts.as_slice() {
+        [
+            Token::Word(what),
+            Token::Word(_),
+            Token::Word(_),
+            Token::Word(_),
+            Token::Word(_),
+            Token::Word(thread),
+            ..
+        ] if what.as_slice() == b"superseded".as_slice() => Some(thread),
+        _ => None,
     }
 }
 

@@ -1,7 +1,0 @@
-use Rattle.std.proofs.Common.{◌≡◌, drop, []}
-use Rattle.std.specs.List.{fold}
-use Rattle.tup_strace.specs.Watch.{with_birth}
-use Rattle.tup_strace.proofs.watch.births_of.Given as goal
-
-abbrev pub invariant-loop-call : goal.invariant-loop-call
-invariant-loop-call l = fold with_birth l.births (drop l.call-index l.calls) ≡ fold with_birth [] l.calls
