@@ -7,12 +7,14 @@ use Rattle.tup_disk.specs.declared.failure.Operation.TheVariants.{Look, Read}
 use Rattle.tup_disk.specs.declared.failure.Refused.{Refused}
 use Rattle.tup_disk.specs.declared.failure.Refused.TheVariants as refused
 use Rattle.tup_child.specs.declared.failure.Failure.{Failure}
-use Rattle.tup_child.specs.declared.failure.Failure.TheVariants.{Memory, Because, Failed, System}
+use Rattle.tup_child.specs.declared.failure.Failure.TheVariants.{Memory, Because, Named, Told, Failed, System}
 
 -- a call on a file failed, of whose refusal this is true
 abbrev pub IsFailed : (Refused → Type 0) → Failure → Type 0
 IsFailed says Memory = ⊥
 IsFailed says (Because text) = ⊥
+IsFailed says (Named name cause) = ⊥
+IsFailed says Told = ⊥
 IsFailed says (Failed failure) = says (refused.Failed failure)
 IsFailed says (System error) = ⊥
 
@@ -37,6 +39,8 @@ IsUnfound place refused = disk.IsNamed Look place refused ⊎ disk.IsNamed Read 
 abbrev pub IsBecause : List ℕ → Failure → Type 0
 IsBecause words Memory = ⊥
 IsBecause words (Because text) = text.now ≡ words
+IsBecause words (Named name cause) = ⊥
+IsBecause words Told = ⊥
 IsBecause words (Failed failure) = ⊥
 IsBecause words (System error) = ⊥
 

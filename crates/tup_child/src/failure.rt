@@ -3,6 +3,7 @@ use std::alloc::{AllocError, AllocFailed};
 use std::io;
 use thiserror::Error;
 use tup_disk::Refused;
+use tup_path::Text;
 
 /// Why a command has no log.
 #[derive(Debug, Drop, Error)]
@@ -13,6 +14,12 @@ pub enum Failure {
     /// A word isn't what it should be, or what stands between the program and the files failed.
     #[error("{0}")]
     Because(&'static str),
+    /// The same of what has this name.
+    #[error("{name}{cause}")]
+    Named { name: Text, cause: &'static str },
+    /// The cause was printed.
+    #[error("the cause was printed")]
+    Told,
     /// The system refused a call on a file: what was asked, the place, and the system's words.
     #[error("{0}")]
     Failed(tup_disk::Failure),

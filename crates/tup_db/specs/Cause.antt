@@ -10,9 +10,13 @@ use Rattle.tup_db.specs.declared.store.Store.{Store}
 abbrev pub place_of : Store → List ℕ
 place_of store = if store.is_aside then string_bytes store.own.aside else string_bytes store.own.store
 
+-- what stands in the new store's place can't be looked at, or isn't removed
+abbrev pub IsUncleared : Own → Refused → Type 0
+IsUncleared own refused = IsBarred Look (string_bytes own.aside) refused ⊎ IsBarred Remove (string_bytes own.aside) refused
+
 -- the program's own folder can't be looked at, or is none; or what a run which died was making isn't removed
 abbrev pub IsUnswept : Own → Refused → Type 0
-IsUnswept own refused = IsBarred Look (string_bytes own.folder) refused ⊎ IsBarred Remove (string_bytes own.aside) refused
+IsUnswept own refused = IsBarred Look (string_bytes own.folder) refused ⊎ IsUncleared own refused
 
 -- in the store's place something else stands, or it can't be looked at
 abbrev pub IsBlocked : Own → Refused → Type 0

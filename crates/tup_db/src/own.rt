@@ -1,6 +1,6 @@
 //! The program's own folder, in which nothing is a file of the tree.
 ghost use Rattle.std.specs.Prelude.{IfOk, IfErr};
-ghost use Rattle.tup_db.specs.Cause.{IsUnswept};
+ghost use Rattle.tup_db.specs.Cause.{IsUncleared, IsUnswept};
 ghost use Rattle.tup_db.specs.Own.{IsOwnBelow};
 
 use std::alloc::{AllocError, Global};
@@ -29,14 +29,29 @@ impl Own {
         })
     }
 
-    /// Removes the store that a run which died was making.
+    /// Removes the store that a run which died was making. It is looked for first: a file system that may only be read refuses a
+    /// removal also where nothing stands.
     pub fn sweep<R: Files<File = File> + Clone + Drop>(&self, disk: &Disk<R>) -> Result<(), Refused>
         ensures cause { IfErr result (IsUnswept self.now) }
     {
         match disk.standing(self.folder.as_str())? {
             Standing::Nothing => Ok(()),
-            Standing::Folder => disk.clear(self.aside.as_str()),
+            Standing::Folder => self.clear_aside(disk),
             _ => Err(disk.in_the_way(self.folder.as_str())),
+        }
+    }
+
+    // Removes what stands in the new store's place, if anything does.
+    fn clear_aside<R: Files<File = File> + Clone + Drop>(
+        &self,
+        disk: &Disk<R>,
+    ) -> Result<(), Refused>
+        ensures cause { IfErr result (IsUncleared self.now) }
+    {
+        let aside = self.aside.as_str();
+        match disk.standing(aside)? {
+            Standing::Nothing => Ok(()),
+            _ => disk.clear(aside),
         }
     }
 }

@@ -1,7 +1,7 @@
 -- How an answer of the system is told, and what a refusal says. Own.
 -- No clause of std says when a call of the system fails, or with which error. So a cause here is what was asked and where; which
 -- answers of the system aren't a refusal; and which refusals are the program's own.
-use Rattle.std.specs.Prelude.{◌≡◌, ◌⊎◌, ℕ, List, [], Result, Ok, Err, String, string_bytes}
+use Rattle.std.specs.Prelude.{◌≡◌, ◌⊎◌, ◌++◌, ◌∷◌, ℕ, List, [], Result, Ok, Err, String, string_bytes, codes}
 use Rattle.std.specs.Global.{Global}
 use Rattle.std.specs.List.{Any}
 use Rattle.std.specs.BTreeSet.{BTreeSet}
@@ -69,3 +69,23 @@ IsUnsyncedAmong places refused = Any (λ place. IsUnsynced (string_bytes place) 
 -- where a folder is wanted, something else stands or can't be looked at, or the folder wasn't made
 abbrev pub IsUnmade : List ℕ → Refused → Type 0
 IsUnmade folder refused = IsBarred operation.Look folder refused ⊎ IsNamed operation.Make folder refused
+
+-- a folder isn't held open: there is no memory, or it can't be looked at or opened, or what stands there is no folder of the project's
+abbrev pub IsUnheld : List ℕ → Refused → Type 0
+IsUnheld place refused = (refused ≡ Memory) ⊎ IsNamed operation.Look place refused ⊎ IsNamed operation.Open place refused
+
+-- the list of what is mounted doesn't read
+abbrev pub HasNoMounts : Refused → Type 0
+HasNoMounts refused = (refused ≡ Memory) ⊎ IsNamed operation.Read (codes "/proc/self/mountinfo") refused
+
+-- the program's own folder in this top folder isn't held open: the top folder can't be looked at, or the own one isn't held
+abbrev pub HasNoOwn : List ℕ → Refused → Type 0
+HasNoOwn root refused = IsNamed operation.Look root refused ⊎ IsUnheld (root ++ codes "/.tup") refused
+
+-- the folder of stages at a place isn't held open: it is neither there nor made, or it isn't held, or it isn't known what is mounted
+abbrev pub HasNoStagesAt : List ℕ → Refused → Type 0
+HasNoStagesAt place refused = IsNamed operation.Make place refused ⊎ IsUnheld place refused ⊎ HasNoMounts refused
+
+-- the folder of stages in this top folder isn't held open: the top folder can't be looked at, or that one isn't held open at its place
+abbrev pub HasNoStages : List ℕ → Refused → Type 0
+HasNoStages root refused = IsNamed operation.Look root refused ⊎ HasNoStagesAt (root ++ codes "/.tup/stage") refused

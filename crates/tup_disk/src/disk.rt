@@ -7,8 +7,12 @@ use crate::failure::{Failure, Operation, Refused, told};
 use std::alloc::{AllocError, Global};
 use std::fs::{File, TryLockError};
 use std::io;
+use std::io::ErrorKind;
 use std::rt::Files;
 use tup_path::{Path, Text};
+
+/// What is said where somebody else holds the lock. That is mostly another tup; any program may lock the folder.
+const TAKEN: &str = "another tup is at work here";
 
 /// Whether what was written is made durable. Where it isn't, it is safe against a killed program,
 /// but not against a cut of power.
@@ -73,16 +77,18 @@ impl<R: Files<File = File> + Clone + Drop> Disk<R> {
     pub fn lock(&self) -> Result<File, Refused>
         ensures cause { IfErr result (λ refused.
             IsNamed Operation.Open (string_bytes self.now.root) refused
-            ⊎ IsOwn Operation.Lock (string_bytes self.now.root) refused) }
+            ⊎ IsNamed Operation.Lock (string_bytes self.now.root) refused) }
     {
         let root = self.root.as_str();
         let file = self.open(root)?;
         match file.try_lock() {
+            Ok(()) => Ok(file),
+            Err(TryLockError::Error(e)) if knows_no_locks(e.kind()) => Ok(file),
+            Err(TryLockError::Error(e)) => Err(self.refused(Operation::Lock, root, e)),
             Err(TryLockError::WouldBlock) => {
-                let error = io::Error::other("another tup is at work here");
+                let error = io::Error::other(TAKEN);
                 Err(self.refused(Operation::Lock, root, error))
             }
-            _ => Ok(file),
         }
     }
 
@@ -133,6 +139,11 @@ impl<R: Files<File = File> + Clone + Drop> Disk<R> {
             io::Error::other("an earlier write was lost"),
         )
     }
+}
+
+/// Whether an error says that the file system knows no locks.
+fn knows_no_locks(kind: ErrorKind) -> bool {
+    kind == ErrorKind::Unsupported
 }
 
 /// The place of these names below a folder, as the system names it.

@@ -8,7 +8,8 @@ ghost use Rattle.tup_path.specs.Order.{by_names};
 
 use crate::disk::Disk;
 use crate::failure::{Operation, Refused};
-use crate::standing::{Inode, Seen, Standing, look};
+use crate::standing::{Seen, Standing, look};
+use crate::stat::Stat;
 use std::alloc::{AllocError, Global};
 use std::collections::VecDeque;
 use std::fs::File;
@@ -32,8 +33,8 @@ pub struct Listing {
 #[derive(Drop)]
 pub struct Listed {
     pub place: String,
-    /// Which file it is; of a link that isn't told.
-    pub inode: Option<Inode>,
+    /// What was seen of the file; of a link that isn't told.
+    pub stat: Option<Stat>,
 }
 
 /// The files that were found, with their places, and the folders that are to be looked into.
@@ -45,11 +46,11 @@ struct Found {
 }
 
 impl Found {
-    fn add(&mut self, path: Path, place: String, inode: Option<Inode>) -> Result<(), Refused>
+    fn add(&mut self, path: Path, place: String, stat: Option<Stat>) -> Result<(), Refused>
         ensures cause { IfErr result (λ refused. refused ≡ Memory) }
     {
         self.files.push(path)?;
-        self.places.push(Listed { place, inode })?;
+        self.places.push(Listed { place, stat })?;
         Ok(())
     }
 }
@@ -125,7 +126,7 @@ impl<R: Files<File = File> + Clone + Drop> Disk<R> {
     {
         let place = self.place(path.names())?;
         match self.found_at(place.as_str())? {
-            Standing::File { inode, .. } => found.add(path, place, Some(inode))?,
+            Standing::File { stat, .. } => found.add(path, place, Some(stat))?,
             Standing::Folder if path.depth() < MAX_DEPTH => found.folders.push_back(path)?,
             Standing::Link | Standing::Other if is_read_by_name(name) => {
                 return Err(self.in_the_way(place.as_str()));

@@ -10,6 +10,7 @@ ghost use Rattle.tup_disk.specs.declared.standing.Standing.TheVariants.{Folder};
 
 use crate::disk::{Disk, Syncs};
 use crate::failure::{Operation, Refused, told};
+use crate::stat::{Inode, Stat, stat_of};
 use std::alloc::Global;
 use std::collections::BTreeSet;
 use std::fs::{File, Metadata};
@@ -22,13 +23,6 @@ use tup_path::Path;
 /// The bits of a mode by which its owner, its group and all others may run a file.
 const RUN_BITS: u32 = 0o111;
 
-/// Which file of the system one is, whatever its name is.
-#[derive(Clone, Copy, PartialEq, Eq)]
-pub struct Inode {
-    device: u64,
-    number: u64,
-}
-
 /// What stands at a place. A link is one, wherever it leads.
 #[derive(Clone, Copy, PartialEq, Eq)]
 pub enum Standing {
@@ -38,7 +32,7 @@ pub enum Standing {
         len: u64,
         names: u64,
         runs: bool,
-        inode: Inode,
+        stat: Stat,
     },
     Folder,
     /// A link, whether anything stands where it leads or not.
@@ -86,8 +80,9 @@ impl<R: Files<File = File> + Clone + Drop> Disk<R> {
         standing_at(&self.rt, self.alloc, place)
     }
 
-    /// Opens the file that was listed at a place, and tells its length. `None` where it isn't there any more.
-    pub fn open_listed(&self, place: &str, inode: Inode) -> Result<Option<(File, u64)>, Refused>
+    /// Opens the file that was listed at a place, and tells what is seen of it before it is read. `None` where it isn't there
+    /// any more.
+    pub fn open_listed(&self, place: &str, inode: Inode) -> Result<Option<(File, Stat)>, Refused>
         ensures cause { IfErr result (IsUnopened place.now) }
     {
         let file = match File::open(&self.rt, place) {
@@ -95,8 +90,9 @@ impl<R: Files<File = File> + Clone + Drop> Disk<R> {
             opened => self.at(Operation::Open, place, opened)?,
         };
         let found = self.at(Operation::Look, place, file.metadata())?;
-        if found.is_file() && inode_of(&found) == inode {
-            Ok(Some((file, found.len())))
+        let stat = stat_of(&found);
+        if found.is_file() && stat.inode == inode {
+            Ok(Some((file, stat)))
         } else {
             Ok(None)
         }
@@ -274,7 +270,7 @@ fn kind_of(found: &Metadata) -> Standing {
             len: found.len(),
             names: found.nlink(),
             runs: found.mode() & RUN_BITS != 0,
-            inode: inode_of(found),
+            stat: stat_of(found),
         }
     } else if found.is_dir() {
         Standing::Folder
@@ -282,13 +278,6 @@ fn kind_of(found: &Metadata) -> Standing {
         Standing::Link
     } else {
         Standing::Other
-    }
-}
-
-fn inode_of(found: &Metadata) -> Inode {
-    Inode {
-        device: found.dev(),
-        number: found.ino(),
     }
 }
 

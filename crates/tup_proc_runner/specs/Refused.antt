@@ -1,7 +1,7 @@
 -- Why something of a run wasn't done.
 use Rattle.std.specs.Prelude.{◌≡◌, ◌⊎◌}
 use Rattle.tup_proc_runner.specs.declared.fault.ProcFault.{ProcFault}
-use Rattle.tup_proc_runner.specs.declared.fault.ProcFault.TheVariants.{NotStarted, BadLog, NoStage}
+use Rattle.tup_proc_runner.specs.declared.fault.ProcFault.TheVariants.{NotStarted, BadLog, NoStage, Told}
 use Rattle.tup_proc_runner.specs.declared.fault.Refused.{Refused}
 use Rattle.tup_proc_runner.specs.declared.fault.Refused.TheVariants.{Memory, Fault}
 
@@ -17,6 +17,10 @@ IsOfRun refused = IsMemoryOr NotStarted refused ⊎ IsMemoryOr NoStage refused
 abbrev pub IsOfRead : Refused → Type 0
 IsOfRead refused = IsMemoryOr BadLog refused ⊎ IsMemoryOr NoStage refused
 
--- why there are no lines of a log: the program didn't run to its end, or its log isn't there or doesn't read
+-- why a log has no lines: it isn't read or doesn't read, or the program has printed why there is none
+abbrev pub IsOfLog : Refused → Type 0
+IsOfLog refused = IsOfRead refused ⊎ IsMemoryOr Told refused
+
+-- why there are no lines of a log: the program didn't run to its end, or its log has none
 abbrev pub IsOfStart : Refused → Type 0
-IsOfStart refused = IsOfRun refused ⊎ IsOfRead refused
+IsOfStart refused = IsOfRun refused ⊎ IsOfLog refused

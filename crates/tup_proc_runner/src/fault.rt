@@ -16,6 +16,9 @@ pub enum ProcFault {
     /// There is no log, it doesn't read, or it names what the program wrote in a file that isn't there.
     #[error("the program's log is bad")]
     BadLog,
+    /// There is no log, and the program has printed why.
+    #[error("the program has no log, and said why")]
+    Told,
     /// The log says that the program found another content at this place than the view answers, or only one of the two found
     /// anything. Either somebody changed the file, or the log is bad: which it was can't be told.
     #[error("{place}: it isn't as the program found it: it was changed while tup ran, or the program's log is bad")]

@@ -60,6 +60,8 @@ impl<R: Files<File = File> + Processes + Clone + Drop> ProcRunner<R> {
                 stages,
                 count: 0,
                 folder: Text::from_string(String::new(alloc)),
+                name: Text::from_string(String::new(alloc)),
+                held: None,
             },
             printing: Printing {
                 place: kept,
@@ -77,6 +79,12 @@ impl<R: Files<File = File> + Processes + Clone + Drop> ProcRunner<R> {
         self.last.as_ref()
     }
 
+    /// Removes what the commands of its update left, as far as that can be. All of them have to be over.
+    pub fn leave(&self, alloc: Global) {
+        // Without memory it stays until the next update.
+        drop(self.stage.leave(alloc));
+    }
+
     /// Runs the program, and gives the lines of its log.
     fn start(
         &mut self,
@@ -89,7 +97,7 @@ impl<R: Files<File = File> + Processes + Clone + Drop> ProcRunner<R> {
         ensures refused { IfErr result IsOfStart }
         ensures uncounted { self.new.faults ≡ self.old.faults }
     {
-        self.stage.prepare(alloc, own)?;
+        self.stage.prepare(alloc, &self.root, own)?;
         let command = self.command_in(alloc, dir, text)?;
         self.printing.run(&self.stage.rt, alloc, command)?;
         self.stage.log(alloc)

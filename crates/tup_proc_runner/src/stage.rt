@@ -2,12 +2,12 @@
 ghost use Rattle.std.specs.Prelude.{◌≡◌, ◌+◌, ◌%◌, ◌^◌, ◌++◌, ◌∷◌, [], IfOk, IfErr, OnOk, string_bytes};
 ghost use Rattle.tup_path.specs.Show.{show};
 ghost use Rattle.tup_proc.specs.Log.{IsLog};
-ghost use Rattle.tup_proc_runner.specs.Refused.{IsMemoryOr, IsOfRead};
+ghost use Rattle.tup_proc_runner.specs.Refused.{IsMemoryOr, IsOfLog, IsOfRead};
 ghost use Rattle.tup_proc_runner.specs.Stages.{stage_of};
 ghost use Rattle.tup_proc_runner.specs.Told.{told_in, told_of, texts_of, with_line, list_of};
 
 use crate::fault::{ProcFault, Refused};
-use crate::older::{remove, remove_others};
+use crate::older::{remove, remove_others, remove_own};
 use crate::stages::Stages;
 use std::alloc::{AllocError, Global};
 use std::fs::File;
@@ -15,6 +15,7 @@ use std::io::{ErrorKind, Read};
 use std::process::Processes;
 use std::rt::Files;
 use std::{fs, io};
+use tup_disk::{Held, own_folder, stages};
 use tup_path::{Bytes, Items, Path, Text};
 use tup_proc::{LogFault, LogLine, read_log};
 use tup_runner::{Ended, Writes};
@@ -28,15 +29,25 @@ pub(crate) struct Stage<R: Files<File = File> + Clone + Drop> {
     pub(crate) stages: Stages,
     /// How many commands had a stage.
     pub(crate) count: u64,
-    /// The stage of the last one.
+    /// The stage of the last one, and its name in the folder of stages.
     pub(crate) folder: Text,
+    pub(crate) name: Text,
+    /// The folder of stages, once there is a stage.
+    pub(crate) held: Option<Held>,
 }
 
 impl<R: Files<File = File> + Processes + Clone + Drop> Stage<R> {
-    /// Removes what older commands left, makes a new stage, and writes the list of the rule's own outputs into it.
-    pub(crate) fn prepare(&mut self, alloc: Global, own: &[Path]) -> Result<(), Refused>
+    /// Removes what older commands left, makes a new stage, and writes the list of the rule's own outputs into it. It is a
+    /// stage of the project in a top folder.
+    pub(crate) fn prepare(
+        &mut self,
+        alloc: Global,
+        root: &Text,
+        own: &[Path],
+    ) -> Result<(), Refused>
         ensures { IfErr result (IsMemoryOr ProcFault.NoStage) }
     {
+        self.hold(alloc, root)?;
         self.sweep(alloc)?;
         self.make(alloc)?;
         let place = self.place(alloc, "own")?;
@@ -44,14 +55,36 @@ impl<R: Files<File = File> + Processes + Clone + Drop> Stage<R> {
         self.at(fs::write(&self.rt, place.as_str(), list.as_slice()))
     }
 
+    /// Holds the folder of stages, if it isn't held yet.
+    fn hold(&mut self, alloc: Global, root: &Text) -> Result<(), Refused>
+        ensures refused { IfErr result (IsMemoryOr ProcFault.NoStage) }
+        ensures named { self.new.folder ≡ self.old.folder }
+    {
+        if self.held.is_none() {
+            self.held = Some(held_stages(&self.rt, alloc, root)?);
+        }
+        Ok(())
+    }
+
     /// Removes what older commands left, as far as that can be: of other updates once, and of this runner's own. No stage has
     /// the name of one that stays.
     fn sweep(&self, alloc: Global) -> Result<(), AllocError> {
+        let Some(held) = &self.held else {
+            return Ok(());
+        };
         let runtime = (self.rt.clone()?, alloc);
         if self.count == 0 {
-            remove_others(&runtime, &self.stages)
+            remove_others(&runtime, held, &self.stages)
         } else {
-            remove(&runtime, self.folder.as_str())
+            remove(&runtime, held, self.name.as_str())
+        }
+    }
+
+    /// Removes what the commands of its update left, as far as that can be, if it had any.
+    pub(crate) fn leave(&self, alloc: Global) -> Result<(), AllocError> {
+        match &self.held {
+            Some(held) => remove_own(&(self.rt.clone()?, alloc), held, &self.stages),
+            None => Ok(()),
         }
     }
 
@@ -62,13 +95,44 @@ impl<R: Files<File = File> + Processes + Clone + Drop> Stage<R> {
         ensures counted { OnOk result (self.new.count ≡ (self.old.count + 1) % 2 ^ 64) }
     {
         self.folder = self.stages.next(alloc, self.count)?;
+        self.name = self.stages.name(alloc, self.count)?;
         self.count = self.count.wrapping_add(1);
-        self.at(fs::create_dir_all(&self.rt, self.stages.above.as_str()))?;
-        self.at(fs::create_dir(&self.rt, self.folder.as_str()))
+        self.make_folder(alloc)
     }
 
-    /// The lines of the log that the program left.
+    /// Makes the folder of the stage in the one that is held.
+    fn make_folder(&self, alloc: Global) -> Result<(), Refused>
+        ensures { IfErr result (IsMemoryOr ProcFault.NoStage) }
+    {
+        match &self.held {
+            Some(held) => {
+                let place = held.inside(alloc, self.name.as_str())?;
+                self.at(fs::create_dir(&self.rt, place.as_str()))
+            }
+            None => Err(Refused::Fault(ProcFault::NoStage)),
+        }
+    }
+
+    /// The lines of the log that the program left. Where there is none and a file `said` stands beside, it has printed why.
     pub(crate) fn log(&self, alloc: Global) -> Result<Items<LogLine>, Refused>
+        ensures log { IfOk result IsLog }
+        ensures refused { IfErr result IsOfLog }
+    {
+        if self.has_said(alloc)? {
+            return Err(Refused::Fault(ProcFault::Told));
+        }
+        self.read_lines(alloc)
+    }
+
+    /// Whether the program has left the file that says that it printed why it has no log, and no log.
+    fn has_said(&self, alloc: Global) -> Result<bool, AllocError> {
+        let (said, log) = (self.place(alloc, "said")?, self.place(alloc, "log")?);
+        let is_said = fs::symlink_metadata(&self.rt, said.as_str()).is_ok();
+        Ok(is_said && fs::symlink_metadata(&self.rt, log.as_str()).is_err())
+    }
+
+    /// The lines of the log.
+    fn read_lines(&self, alloc: Global) -> Result<Items<LogLine>, Refused>
         ensures log { IfOk result IsLog }
         ensures refused { IfErr result IsOfRead }
     {
@@ -172,6 +236,46 @@ impl<R: Files<File = File> + Processes + Clone + Drop> Stage<R> {
             Ok(()) => Ok(()),
             Err(e) => Err(Refused::of(&e, ProcFault::NoStage)),
         }
+    }
+}
+
+/// The folder of stages of the project in a top folder.
+fn held_stages<R: Files<File = File> + Clone + Drop>(
+    rt: &R,
+    alloc: Global,
+    root: &Text,
+) -> Result<Held, Refused>
+    ensures { IfErr result (IsMemoryOr ProcFault.NoStage) }
+{
+    match own_folder(rt, alloc, root.as_str()) {
+        Ok(Some(own)) => held_in(rt, alloc, root, &own),
+        Ok(None) => Err(Refused::Fault(ProcFault::NoStage)),
+        Err(refused) => Err(of_disk(refused)),
+    }
+}
+
+/// The folder of stages in the program's own one.
+fn held_in<R: Files<File = File> + Clone + Drop>(
+    rt: &R,
+    alloc: Global,
+    root: &Text,
+    own: &Held,
+) -> Result<Held, Refused>
+    ensures { IfErr result (IsMemoryOr ProcFault.NoStage) }
+{
+    match stages(rt, alloc, root.as_str(), own) {
+        Ok(held) => Ok(held),
+        Err(refused) => Err(of_disk(refused)),
+    }
+}
+
+/// What a refusal of the folder of stages comes to.
+fn of_disk(refused: tup_disk::Refused) -> Refused
+    ensures { IsMemoryOr ProcFault.NoStage result }
+{
+    match refused {
+        tup_disk::Refused::Memory => Refused::Memory,
+        tup_disk::Refused::Failed(_failure) => Refused::Fault(ProcFault::NoStage),
     }
 }
 

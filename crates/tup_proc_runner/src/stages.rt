@@ -1,6 +1,6 @@
 //! The names of stages.
 ghost use Rattle.std.specs.Prelude.{◌≡◌, IfOk};
-ghost use Rattle.tup_proc_runner.specs.Stages.{stage_of, printed_of};
+ghost use Rattle.tup_proc_runner.specs.Stages.{name_of, stage_of, printed_of};
 
 use std::alloc::{AllocError, Global};
 use tup_path::Text;
@@ -21,13 +21,19 @@ impl Stages {
     pub(crate) fn next(&self, alloc: Global, count: u64) -> Result<Text, AllocError>
         ensures { IfOk result (λ folder. folder ≡ stage_of self.now count) }
     {
-        let Stages {
-            above,
-            update,
-            seat,
-        } = self;
-        let folder = format!(in alloc; "{above}/{update}-{seat}-{count}")?;
+        let above = &self.above;
+        let name = self.name(alloc, count)?;
+        let folder = format!(in alloc; "{above}/{name}")?;
         Ok(Text::from_string(folder))
+    }
+
+    /// The name of the stage of the command behind so many others of this runner.
+    pub(crate) fn name(&self, alloc: Global, count: u64) -> Result<Text, AllocError>
+        ensures { IfOk result (λ name. name ≡ name_of self.now count) }
+    {
+        let Stages { update, seat, .. } = self;
+        let name = format!(in alloc; "{update}-{seat}-{count}")?;
+        Ok(Text::from_string(name))
     }
 
     /// The place beside the stages where what the commands of this runner print may be kept.
