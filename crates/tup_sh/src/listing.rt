@@ -10,7 +10,7 @@ use std::process::{Processes, Stdio};
 use std::rt::Files;
 use std::{fs, io};
 use tup_child::{Failure, Tree};
-use tup_disk::{Operation, told};
+use tup_disk::{Operation, Standing, told};
 
 /// How many entries are listed at most.
 const MAX_ENTRIES: u32 = u32::MAX;
@@ -19,8 +19,26 @@ const READABLE: u32 = 0o400;
 /// The bits of a mode by which its owner may do all.
 const OPEN: u32 = 0o700;
 
-/// What the command left in the upper folder. The entries of a folder follow it.
+/// What the command left in the upper folder. The entries of a folder follow it. Where that was held in memory the script has left
+/// the list.
 pub(crate) fn entries<R: Files<File = File> + Processes + Clone + Drop>(
+    tree: &Tree<R>,
+    is_fit: bool,
+) -> Result<Entries, Failure> {
+    if is_fit {
+        return walked(tree);
+    }
+    let place = tree.staged("list")?;
+    match tree.at(place.as_str())? {
+        Standing::File { .. } => {
+            Entries::read(tree.alloc, tree.content(place.as_str())?.as_slice())
+        }
+        _ => Err(Failure::Because("what the command wrote couldn't be taken out of memory")),
+    }
+}
+
+/// What the command left, found by a walk.
+fn walked<R: Files<File = File> + Processes + Clone + Drop>(
     tree: &Tree<R>,
 ) -> Result<Entries, Failure> {
     let mut descent = Descent::of(tree);

@@ -5,40 +5,67 @@
 //! by `tup_trace` and followed by `tup_strace`, whose contracts are exact. Who starts it checks its log.
 #![tactic(auto)]
 
+mod changed;
+mod check;
 mod entries;
+mod ground;
 mod job;
+mod links;
+mod listed;
 mod listing;
 mod log;
+mod mark;
 mod programs;
 mod script;
 mod seen;
 mod stage;
 mod start;
+mod tell;
+mod update;
 mod upper;
 mod walk;
+mod way;
 mod writes;
 
+use check::{folder, look};
 use job::{Job, run};
+use std::alloc::Global;
 use std::process::ExitCode;
 use tup_child::{Failure, read_words};
 
 fn main(rt: HostRuntime) -> ExitCode {
     let alloc = rt.alloc();
-    let Some(words) = read_words(&rt, alloc) else {
-        // A line that can't be printed changes nothing: the exit number tells as much.
-        drop(println!(rt; "usage: tup_sh ROOT DIR STAGE TEXT"));
-        return ExitCode::from(2);
+    let status = match read_words(&rt, alloc) {
+        Some(words) => status(rt, run(&Job { rt, alloc, words })),
+        None => checked(rt, alloc),
     };
-    ExitCode::from(status(rt, run(&Job { rt, alloc, words })))
+    ExitCode::from(status)
+}
+
+/// The exit number where the words are no command's: they may ask for a check.
+fn checked(rt: HostRuntime, alloc: Global) -> u8 {
+    match folder(&rt, alloc) {
+        Some(folder) => status(rt, look(&rt, alloc, &folder)),
+        None => {
+            // A line that can't be printed changes nothing: the exit number tells as much.
+            drop(println!(rt; "usage: tup_sh ROOT DIR STAGE TEXT, or tup_sh --check [DIR]"));
+            2
+        }
+    }
 }
 
 /// The exit number, with the line that is printed of a failure.
-fn status(rt: HostRuntime, done: Result<(), Failure>) -> u8 {
+fn status(rt: HostRuntime, done: Result<u8, Failure>) -> u8 {
     match done {
-        Ok(()) => 0,
-        Err(failure) => {
-            drop(eprintln!(rt; "tup_sh: {failure}"));
-            1
-        }
+        Ok(status) => status,
+        Err(failure) => failed(rt, &failure),
     }
+}
+
+/// The exit number of a failure, with its line unless the cause was printed.
+fn failed(rt: HostRuntime, failure: &Failure) -> u8 {
+    if !matches!(failure, Failure::Told) {
+        drop(eprintln!(rt; "tup_sh: {failure}"));
+    }
+    1
 }

@@ -1,14 +1,16 @@
 //! What a command did, with the links on the way to each place.
+use crate::ground::Ground;
 use crate::upper::written;
-use crate::walk::{MAX_NAMES, Walk, name_below, path_below, unseen_name};
+use crate::walk::{MAX_NAMES, Walk, is_system, name_below, path_below, unseen_name};
 use std::alloc::Global;
+use std::collections::BTreeSet;
 use std::fs::File;
 use std::rt::Files;
 use std::{fs, str};
 use tup_child::{Failure, Tree};
 use tup_disk::Standing;
 use tup_path::{Bytes, Path, Text};
-use tup_strace::{Account, Act, Step};
+use tup_strace::{Account, Act, Answer, Step};
 
 /// How many interpreters of interpreters the system starts.
 const MAX_INTERPRETERS: usize = 4;
@@ -17,8 +19,14 @@ const MAX_INTERPRETERS: usize = 4;
 #[derive(Drop)]
 pub(crate) struct Seen<'a, R: Files<File = File> + Clone + Drop> {
     pub(crate) tree: &'a Tree<R>,
+    pub(crate) ground: &'a Ground,
     pub(crate) account: &'a mut Account,
     pub(crate) untracked: &'a mut Untracked,
+    /// Places that were looked at and are no links.
+    pub(crate) plain: BTreeSet<String>,
+    /// Whether an answer is sure to be of the path to which its place leads now. It isn't where a link on the way is the command's
+    /// own, which may have led elsewhere then, or leads to no text, and isn't followed.
+    pub(crate) is_sure: bool,
 }
 
 /// What a command asked for whose changes an update doesn't see: the first of each kind, by its path from
@@ -52,7 +60,11 @@ impl<R: Files<File = File> + Clone + Drop> Seen<'_, R> {
     /// Adds what was done to a place.
     fn follow(&mut self, alloc: Global, act: &Act) -> Result<(), Failure> {
         match act {
-            Act::Ask { place, follows } => self.ask(alloc, place, *follows),
+            Act::Ask {
+                place,
+                follows,
+                answer,
+            } => self.ask(alloc, place, *follows, *answer),
             Act::Run { place } => self.start(alloc, place),
             Act::Write { place, follows } => self.write(alloc, place, *follows),
             Act::Change { place, follows } => self.change(alloc, place, *follows),
@@ -61,10 +73,23 @@ impl<R: Files<File = File> + Clone + Drop> Seen<'_, R> {
         }
     }
 
-    /// Adds that a place was asked for.
-    fn ask(&mut self, alloc: Global, place: &Bytes, follows: bool) -> Result<(), Failure> {
+    /// Adds that a place was asked for, and what was told of it.
+    fn ask(
+        &mut self,
+        alloc: Global,
+        place: &Bytes,
+        follows: bool,
+        answer: Answer,
+    ) -> Result<(), Failure> {
         match self.resolve(alloc, place.as_slice(), follows)? {
-            Some(path) => self.add(&Step::Ask(path)),
+            Some(path) => {
+                let answer = if self.is_sure {
+                    answer
+                } else {
+                    Answer::Unclear
+                };
+                self.add(alloc, Step::Ask(path, answer))
+            }
             None => self.note_unseen(alloc, place.as_slice()),
         }
     }
@@ -99,7 +124,7 @@ impl<R: Files<File = File> + Clone + Drop> Seen<'_, R> {
     /// Adds that a place was written.
     fn write(&mut self, alloc: Global, place: &Bytes, follows: bool) -> Result<(), Failure> {
         match self.resolve(alloc, place.as_slice(), follows)? {
-            Some(path) => self.add(&Step::Write(path)),
+            Some(path) => self.add(alloc, Step::Write(path)),
             None => Ok(()),
         }
     }
@@ -107,7 +132,7 @@ impl<R: Files<File = File> + Clone + Drop> Seen<'_, R> {
     /// Adds that a place may have been changed.
     fn change(&mut self, alloc: Global, place: &Bytes, follows: bool) -> Result<(), Failure> {
         match self.resolve(alloc, place.as_slice(), follows)? {
-            Some(path) => self.add(&Step::Change(path)),
+            Some(path) => self.add(alloc, Step::Change(path)),
             None => Ok(()),
         }
     }
@@ -115,7 +140,7 @@ impl<R: Files<File = File> + Clone + Drop> Seen<'_, R> {
     /// Adds that a place was removed.
     fn remove(&mut self, alloc: Global, place: &Bytes) -> Result<(), Failure> {
         match self.resolve(alloc, place.as_slice(), false)? {
-            Some(path) => self.add(&Step::Remove(path)),
+            Some(path) => self.add(alloc, Step::Remove(path)),
             None => Ok(()),
         }
     }
@@ -131,15 +156,65 @@ impl<R: Files<File = File> + Clone + Drop> Seen<'_, R> {
     /// Adds that a path of the project was moved to a place.
     fn rename_from(&mut self, alloc: Global, from: Path, to: &Bytes) -> Result<(), Failure> {
         match self.resolve(alloc, to.as_slice(), false)? {
-            Some(to) => self.add(&Step::Move { from, to }),
-            None => self.add(&Step::Remove(from)),
+            Some(to) => self.add(alloc, Step::Move { from, to }),
+            None => self.add(alloc, Step::Remove(from)),
         }
     }
 
-    /// Adds a step.
-    fn add(&mut self, step: &Step) -> Result<(), Failure> {
+    /// Adds a step. Below a folder that the command made, moved or removed nothing is asked of the project.
+    fn add(&mut self, alloc: Global, step: Step) -> Result<(), Failure> {
+        if self.is_below(alloc, &step)? {
+            self.add_below(&step)
+        } else {
+            self.put(&step)
+        }
+    }
+
+    /// Whether a step asks, and below such a folder.
+    fn is_below(&self, alloc: Global, step: &Step) -> Result<bool, Failure> {
+        match step {
+            Step::Ask(path, _) => self.is_below_own(alloc, path),
+            Step::Change(path) => self.is_below_own(alloc, path),
+            Step::Remove(path) => self.is_below_own(alloc, path),
+            Step::Move { from, .. } => self.is_below_own(alloc, from),
+            Step::Write(_) => Ok(false),
+        }
+    }
+
+    /// Adds what a step below such a folder writes.
+    fn add_below(&mut self, step: &Step) -> Result<(), Failure> {
+        match step {
+            Step::Ask(_, _) => Ok(()),
+            Step::Write(path) => self.put(&Step::Write(path.clone()?)),
+            Step::Change(path) => self.put(&Step::Write(path.clone()?)),
+            Step::Remove(path) => self.put(&Step::Write(path.clone()?)),
+            Step::Move { from, to } => {
+                self.put(&Step::Write(to.clone()?))?;
+                self.put(&Step::Write(from.clone()?))
+            }
+        }
+    }
+
+    /// Adds a step as it is.
+    fn put(&mut self, step: &Step) -> Result<(), Failure> {
         self.account.add(step)?;
         Ok(())
+    }
+
+    /// Whether a folder above a path is the command's own.
+    fn is_below_own(&self, alloc: Global, path: &Path) -> Result<bool, Failure> {
+        if self.account.own.as_slice().is_empty() {
+            return Ok(false);
+        }
+        let mut above = parent(alloc, path)?;
+        for _ in 0..path.depth() {
+            match above {
+                Some(folder) if self.account.is_own(&folder) => return Ok(true),
+                Some(folder) => above = parent(alloc, &folder)?,
+                None => return Ok(false),
+            }
+        }
+        Ok(false)
     }
 
     /// Adds that a place was run: it is asked for, and so is the interpreter that it names, and so on.
@@ -165,7 +240,7 @@ impl<R: Files<File = File> + Clone + Drop> Seen<'_, R> {
     /// Adds that a program of the project is asked for, and gives the interpreter that it names.
     fn start_at(&mut self, alloc: Global, path: Path) -> Result<Option<Vec<u8>>, Failure> {
         let interpreter = self.interpreter(alloc, &path)?;
-        self.add(&Step::Ask(path))?;
+        self.add(alloc, Step::Ask(path, Answer::Unclear))?;
         Ok(interpreter)
     }
 
@@ -207,10 +282,24 @@ impl<R: Files<File = File> + Clone + Drop> Seen<'_, R> {
         let Ok(text) = str::from_utf8(place) else {
             return Ok(None);
         };
-        if is_system(text, self.tree.root.as_str()) {
+        self.is_sure = true;
+        match self.ground.home(self.tree, text)? {
+            Some(home) => self.walk_to(alloc, home.as_str(), follows),
+            None => self.walk_outside(alloc, text, follows),
+        }
+    }
+
+    /// The same, of a place that isn't that of another mount of the project.
+    fn walk_outside(
+        &mut self,
+        alloc: Global,
+        place: &str,
+        follows: bool,
+    ) -> Result<Option<Path>, Failure> {
+        if is_system(alloc, place, self.tree.root.as_str())? {
             return Ok(None);
         }
-        self.walk_to(alloc, text, follows)
+        self.walk_to(alloc, place, follows)
     }
 
     /// The same, of a place that is no part of the system.
@@ -246,12 +335,33 @@ impl<R: Files<File = File> + Clone + Drop> Seen<'_, R> {
     ) -> Result<(), Failure> {
         match name.as_str() {
             "" | "." => Ok(()),
-            ".." => {
-                walk.names.pop();
-                Ok(())
-            }
+            ".." => self.leave(alloc, walk),
             _ => self.enter(alloc, walk, name, follows),
         }
+    }
+
+    /// Walks up out of a folder, for which that asks. The walk is over where none is there: the system says so too.
+    fn leave(&mut self, alloc: Global, walk: &mut Walk) -> Result<(), Failure> {
+        let place = walk.place(alloc)?;
+        let path = path_below(alloc, self.tree.root.as_str(), place.as_str())?;
+        walk.names.pop();
+        match path {
+            Some(path) => self.leave_path(alloc, walk, path),
+            None => Ok(()),
+        }
+    }
+
+    /// The same of a folder of the project.
+    fn leave_path(&mut self, alloc: Global, walk: &mut Walk, path: Path) -> Result<(), Failure> {
+        if self.account.is_own(&path) || self.is_below_own(alloc, &path)? {
+            self.is_sure = false;
+            return Ok(());
+        }
+        if self.tree.before(&path)? != Standing::Folder {
+            walk.is_lost = true;
+            walk.rest.clear();
+        }
+        self.put(&Step::Ask(path, Answer::Unclear))
     }
 
     /// Walks down to a name.
@@ -277,7 +387,10 @@ impl<R: Files<File = File> + Clone + Drop> Seen<'_, R> {
             return Ok(());
         };
         walk.names.pop();
-        walk.add(alloc, target.as_str())
+        match self.ground.home(self.tree, target.as_str())? {
+            Some(home) => walk.add(alloc, home.as_str()),
+            None => walk.add(alloc, target.as_str()),
+        }
     }
 
     /// Where the link at a place leads, if there is one. A link of the project is asked for.
@@ -313,7 +426,7 @@ impl<R: Files<File = File> + Clone + Drop> Seen<'_, R> {
         match self.link_now(alloc, &path)? {
             Some(target) => {
                 self.note_link(&path)?;
-                self.ask_link(path, target)
+                self.ask_link(alloc, path, target)
             }
             None => Ok(None),
         }
@@ -346,18 +459,31 @@ impl<R: Files<File = File> + Clone + Drop> Seen<'_, R> {
     }
 
     /// Adds that a link was asked for, and gives where it leads.
-    fn ask_link(&mut self, path: Path, target: String) -> Result<Option<String>, Failure> {
-        self.add(&Step::Ask(path))?;
+    fn ask_link(
+        &mut self,
+        alloc: Global,
+        path: Path,
+        target: String,
+    ) -> Result<Option<String>, Failure> {
+        if self.account.is_own(&path) {
+            self.is_sure = false;
+        }
+        self.add(alloc, Step::Ask(path, Answer::Unclear))?;
         Ok(Some(target))
     }
 
     /// Where the link that stands at a place leads, if there is one and that is UTF-8. Else it isn't followed, and noted.
     fn link_at(&mut self, alloc: Global, place: &str) -> Result<Option<String>, Failure> {
+        if self.plain.contains(place) {
+            return Ok(None);
+        }
         let Ok(Standing::Link) = self.tree.at(place) else {
+            self.plain.insert(String::from_str(alloc, place)?)?;
             return Ok(None);
         };
         let target = self.tree.target(place)?;
         if target.is_none() {
+            self.is_sure = false;
             self.note_strange(alloc, place)?;
         }
         Ok(target)
@@ -375,14 +501,12 @@ impl<R: Files<File = File> + Clone + Drop> Seen<'_, R> {
     }
 }
 
-/// Whether a place is one of the system's, which isn't walked: what is opened through a link from there into the project has
-/// the path of its descriptor besides.
-fn is_system(place: &str, root: &str) -> bool {
-    [
-        "/proc/", "/dev/", "/sys/", "/usr/", "/etc/", "/lib/", "/lib64/",
-    ]
-    .iter()
-    .any(|front| place.starts_with(*front) && !root.starts_with(*front))
+/// The folder above a path, where that isn't the top.
+fn parent(alloc: Global, path: &Path) -> Result<Option<Path>, Failure> {
+    match path.parent(alloc) {
+        Ok(parent) => Ok(parent),
+        Err(_) => Err(Failure::Memory),
+    }
 }
 
 /// The interpreter that a program's first line names.

@@ -10,17 +10,23 @@ use std::os::unix::fs::{FileTypeExt, MetadataExt, PermissionsExt};
 use std::process::Processes;
 use std::rt::Files;
 use tup_child::{Failure, Tree};
-use tup_disk::{Operation, told};
+use tup_disk::{Operation, Standing, told};
 use tup_path::{Path, Text};
 
-/// Makes the stage ready for a command: makes its folders, and hides the program's own folder and the rule's outputs from before.
+/// Makes the stage ready for a command: makes its folders and those of the rule's outputs, and hides the program's own folder and
+/// the outputs from before. A stage that isn't fit for that leaves the hiding to the script.
 pub(crate) fn prepare<R: Files<File = File> + Processes + Clone + Drop>(
     tree: &Tree<R>,
+    is_fit: bool,
 ) -> Result<(), Failure> {
     make_folders(tree)?;
-    make_mark(tree)?;
+    if is_fit {
+        make_mark(tree)?;
+    }
     for path in &tree.own {
-        hide(tree, path)?;
+        if make_above(tree, path)? && is_fit {
+            hide(tree, path)?;
+        }
     }
     Ok(())
 }
@@ -105,11 +111,10 @@ fn mark<R: Files<File = File> + Clone + Drop>(tree: &Tree<R>) -> Result<String, 
 /// Hides an output from before, if there is one, by a hard link to the mark.
 fn hide<R: Files<File = File> + Clone + Drop>(tree: &Tree<R>, path: &Path) -> Result<(), Failure> {
     let source = tree.source(path)?;
-    if fs::symlink_metadata(&tree.rt, source.as_str()).is_err() {
-        return Ok(());
+    if fs::symlink_metadata(&tree.rt, source.as_str()).is_ok() {
+        link(tree, path)?;
     }
-    make_above(tree, path)?;
-    link(tree, path)
+    Ok(())
 }
 
 /// Links the mark to a path.
@@ -120,30 +125,33 @@ fn link<R: Files<File = File> + Clone + Drop>(tree: &Tree<R>, path: &Path) -> Re
     Ok(told(tree.alloc, Operation::Make, place.as_str(), linked)?)
 }
 
-/// Makes the folders above a path, as they are in the project.
+/// Makes the folders above a path, as they are in the project, and new where they aren't there. Gives whether they are folders:
+/// where something else stands none is made.
 fn make_above<R: Files<File = File> + Clone + Drop>(
     tree: &Tree<R>,
     path: &Path,
-) -> Result<(), Failure> {
+) -> Result<bool, Failure> {
     match path.names() {
         [above @ .., _] => make_all(tree, above),
-        [] => Ok(()),
+        [] => Ok(true),
     }
 }
 
-/// Makes the folders that names lead through.
+/// Makes the folders that names lead through, as far as nothing else stands there.
 fn make_all<R: Files<File = File> + Clone + Drop>(
     tree: &Tree<R>,
     names: &[Text],
-) -> Result<(), Failure> {
+) -> Result<bool, Failure> {
     let mut source = String::from_str(tree.alloc, tree.root.as_str())?;
     let mut place = tree.staged("up")?;
     for name in names {
         add_name(&mut source, name)?;
         add_name(&mut place, name)?;
-        make_as(tree, source.as_str(), place.as_str())?;
+        if !make_as(tree, source.as_str(), place.as_str())? {
+            return Ok(false);
+        }
     }
-    Ok(())
+    Ok(true)
 }
 
 /// Adds a name to a place.
@@ -153,17 +161,37 @@ fn add_name(place: &mut String, name: &Text) -> Result<(), Failure> {
     Ok(())
 }
 
-/// Makes a folder with the mode of a source, unless it exists.
+/// Makes a folder with the mode of that in the project, if there is one. Gives whether nothing else stands there.
 fn make_as<R: Files<File = File> + Clone + Drop>(
     tree: &Tree<R>,
     source: &str,
     place: &str,
-) -> Result<(), Failure> {
+) -> Result<bool, Failure> {
+    match tree.at(source)? {
+        Standing::Folder => {
+            if is_made(tree, place)? {
+                give_mode(tree, source, place)?;
+            }
+            Ok(true)
+        }
+        Standing::Nothing => {
+            is_made(tree, place)?;
+            Ok(true)
+        }
+        Standing::File { .. } | Standing::Link | Standing::Other => Ok(false),
+    }
+}
+
+/// Makes a folder, and gives whether it is new.
+fn is_made<R: Files<File = File> + Clone + Drop>(
+    tree: &Tree<R>,
+    place: &str,
+) -> Result<bool, Failure> {
     match fs::create_dir(&tree.rt, place) {
-        Err(e) if e.kind() == ErrorKind::AlreadyExists => Ok(()),
+        Err(e) if e.kind() == ErrorKind::AlreadyExists => Ok(false),
         made => {
             told(tree.alloc, Operation::Make, place, made)?;
-            give_mode(tree, source, place)
+            Ok(true)
         }
     }
 }

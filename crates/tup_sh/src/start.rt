@@ -1,8 +1,9 @@
 //! The command, run apart under the tracer.
+use crate::ground::Ground;
 use crate::programs::{add_words, command, shell, succeeds};
-use crate::script::{INSIDE, MISSING, WRAP};
-use crate::stage::{open_work, prepare};
-use std::alloc::Global;
+use crate::script::{GO, GO_AND_KEEP, INSIDE, MISSING, WRAP};
+use crate::stage::open_work;
+use crate::way::Way;
 use std::fs;
 use std::fs::File;
 use std::io::{ErrorKind, PipeReader, PipeWriter, Read, pipe};
@@ -12,12 +13,12 @@ use tup_child::{Failure, Tree, Words};
 
 /// The cause where no namespace could be made.
 const NO_NAMESPACE: &str =
-    "no namespace could be made: allow user namespaces (sysctl user.max_user_namespaces, kernel.unprivileged_userns_clone, kernel.apparmor_restrict_unprivileged_userns)";
+    "no namespace could be made: a container has to allow it, or the system user namespaces; `tup_sh --check` says how";
 /// The cause where the overlay couldn't be mounted.
 const NO_OVERLAY: &str =
-    "no overlay could be mounted: the stage must not lie on an overlay itself, and the kernel must have overlayfs";
+    "no overlay could be mounted: `tup_sh --check` says what has to be allowed";
 /// The cause where the trace is empty.
-const NO_TRACE: &str = "strace couldn't trace: allow ptrace";
+const NO_TRACE: &str = "strace couldn't trace: ptrace has to be allowed; `tup_sh --check` says how";
 /// The cause where the script couldn't enter the folder of the command.
 const NO_FOLDER: &str = "the folder of the command isn't there";
 /// The cause where the overlay was mounted and there is no trace.
@@ -26,12 +27,18 @@ const NO_STAGE: &str = "another update has taken the stage away";
 /// The number with which the script ends where it couldn't enter the folder of the command.
 const NOT_ENTERED: i32 = 124;
 
+/// The folder of the stage that holds what the overlay writes where the stage itself can't.
+const MEMORY: &str = "memory";
+
+/// What makes namespaces, and ends where whoever started it does.
+const SPACES: [&str; 4] = ["setpriv", "--pdeathsig", "KILL", "unshare"];
+
 /// What root gives up, so that the command can't reach around the overlay.
 const RIGHTS: &str =
     "-sys_admin,-sys_ptrace,-sys_chroot,-dac_read_search,-mknod,-sys_rawio,-sys_module,-sys_boot";
 
-/// The tracer with its words, up to the program that it traces.
-const TRACER: [&str; 15] = [
+/// The tracer with its words, up to the calls that it traces.
+const TRACER: [&str; 10] = [
     "strace",
     "-f",
     "-q",
@@ -42,7 +49,23 @@ const TRACER: [&str; 15] = [
     "-e",
     "signal=none",
     "-e",
-    "trace=%file,fchdir,bind,?clone,?clone3,?fork,?vfork,?io_uring_setup",
+];
+
+/// The calls that are traced.
+const ALL: &str =
+    "trace=%file,fchdir,bind,?getdents,?getdents64,?clone,?clone3,?fork,?vfork,?io_uring_setup";
+
+/// The same without those that read a link.
+const WITHOUT_LINKS: &str = "\
+trace=?access,?faccessat,?faccessat2,?open,?openat,?openat2,?creat,?stat,?lstat,?newfstatat,?fstatat64,?stat64,?lstat64,?statx,\
+?execve,?execveat,?chdir,?rename,?renameat,?renameat2,?mkdir,?mkdirat,?rmdir,?unlink,?unlinkat,?link,?linkat,?symlink,?symlinkat,\
+?chmod,?fchmodat,?chown,?lchown,?fchownat,?utime,?utimes,?utimensat,?futimesat,?truncate,?truncate64,?mknod,?mknodat,?getcwd,\
+?statfs,?statfs64,?getxattr,?lgetxattr,?setxattr,?lsetxattr,?removexattr,?lremovexattr,?listxattr,?llistxattr,?inotify_add_watch,\
+?name_to_handle_at,?fanotify_mark,?chroot,?pivot_root,?mount,?umount,?umount2,?uselib,?acct,?swapon,?swapoff,?open_tree,?move_mount,\
+?mount_setattr,?fspick,?fsconfig,?quotactl,?fchdir,?bind,?getdents,?getdents64,?clone,?clone3,?fork,?vfork,?io_uring_setup";
+
+/// What stands between them and the program that is traced.
+const INTO: [&str; 4] = [
     "-e",
     "inject=?io_uring_setup:error=ENOSYS",
     "-o",
@@ -57,70 +80,50 @@ struct Ran {
     status: ExitStatus,
 }
 
-/// Runs the command under the tracer. Where it couldn't be run, prints the cause.
-pub(crate) fn start<R: Files<File = File> + Processes + Eprint + Clone + Drop>(
-    tree: &Tree<R>,
-    words: &Words,
-) -> Result<(), Failure> {
-    match run(tree, words) {
-        Err(Failure::Because(cause)) => Err(report(tree, cause)),
-        ended => ended,
-    }
-}
-
-/// Prints which program isn't installed, or else this cause.
-fn report<R: Files<File = File> + Processes + Eprint + Clone + Drop>(
-    tree: &Tree<R>,
-    cause: &str,
-) -> Failure {
-    if !reports_missing(tree) {
-        drop(eprintln!(tree.rt; "tup_sh: {cause}"));
-    }
-    Failure::Because("the command wasn't run")
+/// How a command is run apart.
+#[derive(Clone, Copy)]
+pub(crate) struct Apart<'a> {
+    pub(crate) words: &'a Words,
+    pub(crate) ground: &'a Ground,
+    pub(crate) way: Way,
+    /// Whether the calls that read a link are traced.
+    pub(crate) sees_links: bool,
 }
 
 /// Prints which program isn't installed, and returns whether there is one.
-fn reports_missing<R: Files<File = File> + Processes + Clone + Drop>(tree: &Tree<R>) -> bool {
+pub(crate) fn names_missing<R: Files<File = File> + Processes + Clone + Drop>(
+    tree: &Tree<R>,
+) -> bool {
     match shell(tree, MISSING) {
         Ok(mut shell) => !succeeds(&tree.rt, &mut shell),
         Err(_) => false,
     }
 }
 
-/// Makes the stage ready, and runs the command.
-fn run<R: Files<File = File> + Processes + Clone + Drop>(
+/// Runs the command under the tracer to its end.
+pub(crate) fn start<R: Files<File = File> + Processes + Clone + Drop>(
     tree: &Tree<R>,
-    words: &Words,
+    apart: Apart,
 ) -> Result<(), Failure> {
-    prepare(tree)?;
-    let ran = run_apart(tree, words)?;
-    check(tree, &ran)
-}
-
-/// Runs the command to its end.
-fn run_apart<R: Files<File = File> + Processes + Clone + Drop>(
-    tree: &Tree<R>,
-    words: &Words,
-) -> Result<Ran, Failure> {
     let (mut reader, writer) = pipe(&tree.rt)?;
-    let mut child = spawn(tree, words, writer)?;
+    let mut child = spawn(tree, apart, writer)?;
     let is_mounted = has_line(&mut reader);
     if is_mounted {
         open_work(tree);
     }
     let status = child.wait()?;
-    Ok(Ran { is_mounted, status })
+    check(tree, &Ran { is_mounted, status })
 }
 
 /// Starts the command in namespaces of its own, with the end of a pipe as standard input.
 fn spawn<R: Files<File = File> + Processes + Clone + Drop>(
     tree: &Tree<R>,
-    words: &Words,
+    apart: Apart,
     writer: PipeWriter,
 ) -> Result<Child<R::Started>, Failure> {
-    let mut apart = apart(tree, words)?;
-    apart.stdin(writer);
-    match apart.spawn(&tree.rt) {
+    let mut command = command_of(tree, apart)?;
+    command.stdin(writer);
+    match command.spawn(&tree.rt) {
         Ok(child) => Ok(child),
         Err(e) if e.kind() == ErrorKind::NotFound => Err(Failure::Because(NO_NAMESPACE)),
         Err(e) => Err(Failure::System(e)),
@@ -133,77 +136,129 @@ fn has_line(reader: &mut PipeReader) -> bool {
     matches!(reader.read(bytes.as_mut_slice()), Ok(1))
 }
 
-/// What runs the command in namespaces of its own. Root needs none of users.
-fn apart<R: Files<File = File> + Clone + Drop>(
+/// What runs the command in namespaces of its own. All of it ends where this program does.
+fn command_of<R: Files<File = File> + Clone + Drop>(
     tree: &Tree<R>,
-    words: &Words,
+    apart: Apart,
 ) -> Result<Command, Failure> {
-    let user = libc::geteuid();
-    let mut apart = namespaces(tree, if user == 0 { "-m" } else { "-rm" })?;
-    add_script(&mut apart, tree, words)?;
-    if user == 0 {
-        add_as_root(&mut apart)?;
-    } else {
-        add_as_user(tree.alloc, &mut apart, user)?;
-    }
-    add_words(&mut apart, TRACER.as_slice())?;
-    let traced = ["/bin/sh", "-c", WRAP, "sh", words.text.as_str()];
-    add_words(&mut apart, traced.as_slice())?;
-    Ok(apart)
-}
-
-/// What makes the namespaces: those of mounts and processes, and this.
-fn namespaces<R: Files<File = File> + Clone + Drop>(
-    tree: &Tree<R>,
-    which: &str,
-) -> Result<Command, Failure> {
-    let words = [which, "--pid", "--fork", "--kill-child", "--mount-proc"];
-    command(tree, "unshare", words.as_slice())
-}
-
-/// Adds the script that mounts the overlay, with its words before the options of the overlay.
-fn add_script<R: Files<File = File> + Clone + Drop>(
-    apart: &mut Command,
-    tree: &Tree<R>,
-    words: &Words,
-) -> Result<(), Failure> {
-    let words = [
-        "/bin/sh",
-        "-c",
-        INSIDE,
-        "sh",
-        tree.root.as_str(),
-        words.dir.as_str(),
-    ];
-    add_words(apart, words.as_slice())
-}
-
-/// Adds the options of root's overlay, and the program that gives up root's rights.
-fn add_as_root(apart: &mut Command) -> Result<(), Failure> {
-    let words = [
-        "volatile,metacopy=off,redirect_dir=off",
+    let mut all = command(
+        tree,
         "setpriv",
-        "--bounding-set",
-        RIGHTS,
-        "--inh-caps",
-        RIGHTS,
-    ];
-    add_words(apart, words.as_slice())
+        ["--pdeathsig", "KILL", "unshare"].as_slice(),
+    )?;
+    add_namespaces(&mut all, apart)?;
+    add_script(&mut all, tree, apart)?;
+    match apart.way {
+        Way::Root => add_as_root(&mut all)?,
+        Way::User => add_as_user(tree, &mut all)?,
+    }
+    add_words(&mut all, TRACER.as_slice())?;
+    all.arg(if apart.sees_links { ALL } else { WITHOUT_LINKS })?;
+    add_words(&mut all, INTO.as_slice())?;
+    let traced = ["/bin/sh", "-c", WRAP, "sh", apart.words.text.as_str()];
+    add_words(&mut all, traced.as_slice())?;
+    Ok(all)
 }
 
-/// Adds the options of a user's overlay, and the program that gives up the rights that a user has in the namespaces.
-fn add_as_user(alloc: Global, apart: &mut Command, user: u32) -> Result<(), Failure> {
-    let group = libc::getegid();
-    let user = format!(in alloc; "--map-user={user}")?;
-    let group = format!(in alloc; "--map-group={group}")?;
-    let words = [
-        "userxattr,volatile",
-        "unshare",
-        "-U",
-        user.as_str(),
-        group.as_str(),
-    ];
-    add_words(apart, words.as_slice())
+/// Adds which namespaces are made: that of mounts, for a user one of users, and that of processes unless it is made behind the
+/// script.
+fn add_namespaces(all: &mut Command, apart: Apart) -> Result<(), Failure> {
+    all.arg(match apart.way {
+        Way::Root => "-m",
+        Way::User => "-rm",
+    })?;
+    if apart.ground.is_fit {
+        add_processes(all, apart.ground)?;
+    }
+    Ok(())
+}
+
+/// Adds that a namespace of processes is made. Where something is mounted below `/proc`, as in containers, no user may mount it anew:
+/// then it stays as it is.
+fn add_processes(all: &mut Command, ground: &Ground) -> Result<(), Failure> {
+    add_words(all, ["--pid", "--fork", "--kill-child"].as_slice())?;
+    if !ground.is_masked {
+        all.arg("--mount-proc")?;
+    }
+    Ok(())
+}
+
+/// Adds the script that lays the overlay, with its words.
+fn add_script<R: Files<File = File> + Clone + Drop>(
+    all: &mut Command,
+    tree: &Tree<R>,
+    apart: Apart,
+) -> Result<(), Failure> {
+    let behind = if apart.ground.is_fit { GO } else { GO_AND_KEEP };
+    let upper = if apart.ground.is_fit { "." } else { MEMORY };
+    let script = format!(in tree.alloc; "{INSIDE}{behind}")?;
+    add_words(all, ["/bin/sh", "-c"].as_slice())?;
+    all.arg(script.as_str())?;
+    all.arg("sh")?;
+    all.arg(tree.root.as_str())?;
+    all.arg(apart.words.dir.as_str())?;
+    add_words(all, [options(apart.way), upper].as_slice())?;
+    add_ground(all, tree, apart.ground)?;
+    if !apart.ground.is_fit {
+        add_words(all, SPACES.as_slice())?;
+        add_processes(all, apart.ground)?;
+    }
+    Ok(())
+}
+
+/// The options of the overlay.
+fn options(way: Way) -> &'static str {
+    match way {
+        Way::Root => "volatile,metacopy=off,redirect_dir=off",
+        Way::User => "userxattr,volatile",
+    }
+}
+
+/// Adds where other file systems are mounted in the project, and where else it stands, each behind its number.
+fn add_ground<R: Files<File = File> + Clone + Drop>(
+    all: &mut Command,
+    tree: &Tree<R>,
+    ground: &Ground,
+) -> Result<(), Failure> {
+    add_number(all, tree, ground.points.len())?;
+    for point in &ground.points {
+        all.arg(point.as_str())?;
+    }
+    add_number(all, tree, ground.aliases.len())?;
+    for alias in &ground.aliases {
+        all.arg(alias.part.as_str())?;
+        all.arg(alias.place.as_str())?;
+    }
+    Ok(())
+}
+
+/// Adds a number.
+fn add_number<R: Files<File = File> + Clone + Drop>(
+    all: &mut Command,
+    tree: &Tree<R>,
+    number: usize,
+) -> Result<(), Failure> {
+    let number = format!(in tree.alloc; "{number}")?;
+    all.arg(number.as_str())?;
+    Ok(())
+}
+
+/// Adds the program that gives up root's rights.
+fn add_as_root(all: &mut Command) -> Result<(), Failure> {
+    let words = ["setpriv", "--bounding-set", RIGHTS, "--inh-caps", RIGHTS];
+    add_words(all, words.as_slice())
+}
+
+/// Adds the program that gives up the rights that a user has in the namespaces.
+fn add_as_user<R: Files<File = File> + Clone + Drop>(
+    tree: &Tree<R>,
+    all: &mut Command,
+) -> Result<(), Failure> {
+    let (user, group) = (libc::geteuid(), libc::getegid());
+    let user = format!(in tree.alloc; "--map-user={user}")?;
+    let group = format!(in tree.alloc; "--map-group={group}")?;
+    let words = ["unshare", "-U", user.as_str(), group.as_str()];
+    add_words(all, words.as_slice())
 }
 
 /// The cause, where the command wasn't run under the tracer.

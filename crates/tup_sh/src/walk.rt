@@ -13,6 +13,8 @@ pub(crate) struct Walk {
     pub(crate) names: Vec<String>,
     /// The names that it has to go, the next one last.
     pub(crate) rest: Vec<String>,
+    /// Whether the way is lost: it led up out of what is no folder.
+    pub(crate) is_lost: bool,
 }
 
 impl Walk {
@@ -21,6 +23,7 @@ impl Walk {
         let mut walk = Walk {
             names: Vec::new(alloc),
             rest: Vec::new(alloc),
+            is_lost: false,
         };
         walk.add(alloc, place)?;
         Ok(walk)
@@ -39,7 +42,7 @@ impl Walk {
 
     /// The path of the place where it ended, below a root.
     pub(crate) fn found(&self, alloc: Global, root: &str) -> Result<Option<Path>, Failure> {
-        if !self.rest.is_empty() {
+        if self.is_lost || !self.rest.is_empty() {
             return Ok(None);
         }
         let place = self.place(alloc)?;
@@ -96,4 +99,44 @@ pub(crate) fn name_below<'a>(root: &str, place: &'a str) -> Option<&'a str> {
     } else {
         Some(name)
     }
+}
+
+/// The folders of the system.
+const SYSTEM: [&str; 7] = [
+    "/proc/", "/dev/", "/sys/", "/usr/", "/etc/", "/lib/", "/lib64/",
+];
+
+/// Whether a place is one of the system's, which isn't walked: what is opened through a link from there into the project has
+/// the path of its descriptor besides. A place that leads up out of the system's folders is none.
+pub(crate) fn is_system(alloc: Global, place: &str, root: &str) -> Result<bool, Failure> {
+    if !begins_in_system(place, root) {
+        return Ok(false);
+    }
+    if !place.contains("/..") {
+        return Ok(true);
+    }
+    let folded = folded(alloc, place)?;
+    Ok(begins_in_system(folded.as_str(), root))
+}
+
+/// Whether a place begins with a folder of the system, in which the root doesn't lie.
+fn begins_in_system(place: &str, root: &str) -> bool {
+    SYSTEM.iter().any(|front| place.starts_with(*front) && !root.starts_with(*front))
+}
+
+/// A place without the names that `..` takes back.
+fn folded(alloc: Global, place: &str) -> Result<String, Failure> {
+    let mut walk = Walk {
+        names: Vec::new(alloc),
+        rest: Vec::new(alloc),
+        is_lost: false,
+    };
+    for name in place.split('/') {
+        match name {
+            "" | "." => {}
+            ".." => drop(walk.names.pop()),
+            _ => walk.names.push(String::from_str(alloc, name)?)?,
+        }
+    }
+    walk.place(alloc)
 }

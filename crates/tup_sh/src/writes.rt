@@ -3,15 +3,20 @@ use crate::entries::{Entry, Kind};
 use crate::log::shown;
 use crate::upper::{written, written_content};
 use std::alloc::Global;
+use std::collections::BTreeMap;
 use std::fs;
-use std::fs::File;
+use std::fs::{File, Metadata};
+use std::os::unix::fs::PermissionsExt;
 use std::rt::Files;
 use tup_child::{Failure, Tree};
 use tup_disk::{Operation, Standing, told};
 use tup_path::{Items, Path, Text};
 use tup_proc::LogLine;
-use tup_site::MAX_FILE_BYTES;
+use tup_site::MAX_DISK_FILE_BYTES;
 use tup_strace::Account;
+
+/// The bits of a mode by which others than its owner may read a file.
+const OTHERS: u32 = 0o044;
 
 /// What an entry is to the log.
 #[derive(Clone, Copy)]
@@ -23,7 +28,7 @@ enum Verdict {
     Strange,
 }
 
-/// A file that was written with more bytes than an update reads.
+/// A file that was written with more bytes than an output may have.
 #[derive(Drop)]
 pub(crate) struct Large {
     /// Its path from the top.
@@ -37,6 +42,8 @@ pub(crate) struct Remarks {
     /// The texts of what no output can be.
     pub(crate) strange: Items<Text>,
     pub(crate) large: Vec<Large>,
+    /// The texts of what only its owner may read, where others may read what the user makes.
+    pub(crate) closed: Items<Text>,
 }
 
 impl Remarks {
@@ -44,7 +51,13 @@ impl Remarks {
         Remarks {
             strange: Items::new(alloc),
             large: Vec::new(alloc),
+            closed: Items::new(alloc),
         }
+    }
+
+    /// Whether the command can't be a good one.
+    pub(crate) fn are_faults(&self) -> bool {
+        !self.strange.as_slice().is_empty() || !self.large.is_empty()
     }
 }
 
@@ -56,6 +69,8 @@ pub(crate) struct Writes<'a, R: Files<File = File> + Clone + Drop> {
     pub(crate) log: &'a mut Items<LogLine>,
     /// How many files were written.
     pub(crate) count: u32,
+    /// Whether others may read what the user makes.
+    pub(crate) is_open: bool,
     pub(crate) remarks: &'a mut Remarks,
 }
 
@@ -78,8 +93,9 @@ impl<R: Files<File = File> + Clone + Drop> Writes<'_, R> {
         account: &Account,
         entries: &[Entry],
     ) -> Result<(), Failure> {
+        let kinds = kinds(alloc, entries)?;
         for path in account.touched.as_slice() {
-            let kind = kind_at(entries, path);
+            let kind = kinds.get(path).copied();
             self.add(alloc, path, kind, account.is_own(path))?;
         }
         Ok(())
@@ -168,20 +184,23 @@ impl<R: Files<File = File> + Clone + Drop> Writes<'_, R> {
         self.note(alloc, path)
     }
 
-    /// Notes a file that is too large to be read.
+    /// Notes a file that is too large, and one that only its owner may read.
     fn measure(&mut self, alloc: Global, path: &Path, place: &str) -> Result<(), Failure> {
-        let found = fs::metadata(&self.tree.rt, place);
-        let len = told(alloc, Operation::Look, place, found)?.len();
-        if len <= MAX_FILE_BYTES {
-            return Ok(());
+        let found = told(
+            alloc,
+            Operation::Look,
+            place,
+            fs::metadata(&self.tree.rt, place),
+        )?;
+        let len = found.len();
+        if len > MAX_DISK_FILE_BYTES {
+            let text = from_top(alloc, path)?;
+            self.remarks.large.push(Large { text, len })?;
         }
-        match path.show(alloc) {
-            Ok(text) => {
-                self.remarks.large.push(Large { text, len })?;
-                Ok(())
-            }
-            Err(_) => Err(Failure::Memory),
+        if self.is_open && !is_open(&found) {
+            self.remarks.closed.push(from_top(alloc, path)?)?;
         }
+        Ok(())
     }
 
     /// Takes what stands at a place as the next file.
@@ -227,8 +246,24 @@ impl<R: Files<File = File> + Clone + Drop> Writes<'_, R> {
     }
 }
 
-/// The kind of what stands at a path.
-fn kind_at(entries: &[Entry], path: &Path) -> Option<Kind> {
-    let entry = entries.iter().find(|entry| entry.path == *path)?;
-    Some(entry.kind)
+/// Whether others than its owner may read a file.
+pub(crate) fn is_open(found: &Metadata) -> bool {
+    found.permissions().mode() & OTHERS != 0
+}
+
+/// A path from the top.
+fn from_top(alloc: Global, path: &Path) -> Result<Text, Failure> {
+    match path.show(alloc) {
+        Ok(text) => Ok(text),
+        Err(_) => Err(Failure::Memory),
+    }
+}
+
+/// The kind of what stands at each path.
+fn kinds(alloc: Global, entries: &[Entry]) -> Result<BTreeMap<Path, Kind>, Failure> {
+    let mut kinds = BTreeMap::new(alloc);
+    for entry in entries {
+        kinds.insert(entry.path.clone()?, entry.kind)?;
+    }
+    Ok(kinds)
 }
