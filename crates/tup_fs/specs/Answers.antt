@@ -1,13 +1,15 @@
 -- What is known of the files by what was answered for them, and what may be found next. Own.
-use Rattle.std.specs.Prelude.{◌≡◌, ◌≢◌, ℕ, Bool, true, false, IsTrue, ◌==◌, List, Option, Some, None, String, slice_get, string_bytes, if◌then◌else◌}
+use Rattle.std.specs.Prelude.{◌≡◌, ◌≢◌, ◌⊎◌, ℕ, Bool, true, false, IsTrue, ◌==◌, List, Option, Some, None, String, slice_get, string_bytes, if◌then◌else◌}
 use Rattle.std.specs.Global.{Global}
 use Rattle.std.specs.HashMap.{get_by_text}
 use Rattle.std.specs.Hash.DefaultHasher.{initial, write, finish}
 use Rattle.std.specs.Str.{bytes_eq}
 use Rattle.tup_path.specs.Name.{Content}
+use Rattle.tup_stamp.specs.Stamp.{stamp}
+use Rattle.tup_stamp.specs.declared.Stamp.{Stamp}
 use Rattle.tup_fs.specs.declared.answers.Answers.{Answers}
 use Rattle.tup_fs.specs.declared.answers.Known.{Known}
-use Rattle.tup_fs.specs.declared.answers.Known.TheVariants.{Unknown, Absent, File, Sum}
+use Rattle.tup_fs.specs.declared.answers.Known.TheVariants.{Unknown, Absent, File, Sum, Noted}
 use Rattle.tup_fs.specs.declared.reading.Found.{Found}
 use Rattle.tup_fs.specs.declared.reading.Found.TheVariants as found
 
@@ -48,14 +50,33 @@ may_follow Absent Absent = true
 may_follow Absent Unknown = false
 may_follow Absent (File inode) = false
 may_follow Absent (Sum after) = false
+may_follow Absent (Noted stamp) = false
 may_follow (File inode) Absent = true
 may_follow (File inode) Unknown = false
 may_follow (File inode) (File other) = true
 may_follow (File inode) (Sum after) = true
+may_follow (File inode) (Noted stamp) = true
 may_follow (Sum before) Absent = false
 may_follow (Sum before) Unknown = false
 may_follow (Sum before) (File inode) = false
 may_follow (Sum before) (Sum after) = before == after
+may_follow (Sum before) (Noted stamp) = false
+may_follow (Noted before) Absent = false
+may_follow (Noted before) Unknown = false
+may_follow (Noted before) (File inode) = false
+may_follow (Noted before) (Sum after) = true
+may_follow (Noted before) (Noted after) = false
+
+-- the content that was found, if it was read
+abbrev pub content_of : Found → Option Content
+content_of found.Nothing = None
+content_of (found.Content bytes) = Some bytes
+content_of (found.TooLarge len) = None
+
+-- a content that is found where a stamp was told has that stamp
+abbrev pub HasStamp : Known → Option Content → Type 0
+HasStamp (Noted told) (Some content) = stamp content ≡ told
+HasStamp _ _ = Unit {0}
 
 -- what is known now may follow what was known of a place
 abbrev pub Follows : Answers → List ℕ → Known → Type 0
@@ -68,3 +89,11 @@ Learns old new place known = (other : List ℕ) → known_at new other ≡ (if b
 -- what was known of a place still is
 abbrev pub StayKnown : Answers → Answers → Type 0
 StayKnown old new = (place : List ℕ) → known_at old place ≢ Unknown → known_at new place ≡ known_at old place
+
+-- what is known of a place whose stamp was told: that stamp, or the sum of a content that has it
+abbrev pub IsKnownBy : Stamp → Known → Type 0
+IsKnownBy told known = (known ≡ Noted told) ⊎ ((content : Content) × (stamp content ≡ told) × (known ≡ Sum (sum content)))
+
+-- a stamp is told of a place, and is what is known there from now on
+abbrev pub TellsStamp : Answers → Answers → List ℕ → Stamp → Type 0
+TellsStamp old new place told = (known : Known) × IsKnownBy told known × Learns old new place known

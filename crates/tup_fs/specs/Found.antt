@@ -2,15 +2,15 @@
 -- A file that grows past the limit while it is read is refused as one byte over it.
 use Rattle.std.specs.Prelude.{◌≡◌, ℕ, ◌<◌, ◌≤◌, List, length, Option, Some, None, String, string_bytes}
 use Rattle.std.specs.Global.{Global}
-use Rattle.tup_site.specs.Cause.{most_bytes}
+use Rattle.tup_site.specs.Limits.{greatest}
 use Rattle.tup_fs.specs.declared.reading.Found.{Found}
 use Rattle.tup_fs.specs.declared.reading.Found.TheVariants.{Nothing, Content, TooLarge}
 
 -- what was read isn't longer than a file may be, and what is longer wasn't read
 abbrev pub IsWithin : Found → Type 0
 IsWithin Nothing = Unit {0}
-IsWithin (Content bytes) = length bytes ≤ most_bytes
-IsWithin (TooLarge len) = most_bytes < len
+IsWithin (Content bytes) = length bytes ≤ greatest.bytes
+IsWithin (TooLarge len) = greatest.bytes < len
 
 -- these bytes were found, or that they are so many
 abbrev pub IsFoundAs : List ℕ → Found → Type 0

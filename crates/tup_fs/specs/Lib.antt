@@ -1,4 +1,6 @@
 pub mod Answers
 pub mod Found
 pub mod Last
+pub mod NoteFile
+pub mod Notes
 pub mod Program

@@ -1,12 +1,12 @@
 //! What was answered for the files, so that no later answer says anything else.
-ghost use Rattle.std.specs.Prelude.{◌≡◌, ◌⊎◌, not, is_some, IfOk, IfErr, IsTrue, OnOk, OnErr, string_bytes};
+ghost use Rattle.std.specs.Prelude.{◌≡◌, ◌⊎◌, ◌↔◌, not, is_some, IfOk, IfErr, IsTrue, OnOk, OnErr, string_bytes};
 ghost use Rattle.std.specs.HashMap.{get_by_text};
 ghost use Rattle.tup_disk.specs.Told.{IsNamed};
 ghost use Rattle.tup_disk.specs.declared.failure.Operation.TheVariants as operation;
 ghost use Rattle.tup_disk.specs.declared.failure.Refused.TheVariants.{Memory};
-ghost use Rattle.tup_fs.specs.Answers.{Follows, IsNext, Learns, StayKnown};
+ghost use Rattle.tup_fs.specs.Answers.{Follows, HasStamp, IsNext, Learns, StayKnown};
 ghost use Rattle.tup_fs.specs.Answers as specs;
-ghost use Rattle.tup_fs.specs.declared.answers.Known.TheVariants.{Unknown};
+ghost use Rattle.tup_fs.specs.declared.answers.Known.TheVariants.{Noted, Unknown};
 
 use crate::reading::Found;
 use indexmap::IndexMap;
@@ -16,6 +16,10 @@ use std::hash::{DefaultHasher, Hasher};
 use std::io;
 use std::rt::Files;
 use tup_disk::{Disk, Inode, Listed, Operation, Refused};
+use tup_stamp::{Stamp, stamp_of};
+
+/// What is said of a file that holds something else than it did.
+const CHANGED: &str = "it was changed while tup ran";
 
 /// What is known of a place.
 #[derive(Clone, Copy)]
@@ -28,6 +32,8 @@ pub(crate) enum Known {
     File(Option<Inode>),
     /// A file is there, and its content has this sum.
     Sum(u64),
+    /// A file is there, and its content has this stamp.
+    Noted(Stamp),
 }
 
 /// What is known of all places, by what was listed, read, put and removed.
@@ -110,6 +116,27 @@ impl Answers {
         self.next = self.next.saturating_add(1);
     }
 
+    /// Whether nothing was learned of any place yet.
+    pub fn is_new(&self) -> bool {
+        self.places.is_empty()
+    }
+
+    /// Which of the places that were listed this is, if it wasn't asked for before that.
+    pub fn index_of(&self, place: &str) -> Option<usize> {
+        if self.is_next(place) {
+            return Some(self.next);
+        }
+        self.places.get_index_of(place)
+    }
+
+    /// The place that was listed as this one.
+    pub fn place_at(&self, at: usize) -> Option<&str> {
+        match self.places.get_index(at) {
+            Some((place, _)) => Some(place.as_str()),
+            None => None,
+        }
+    }
+
     /// These are all files that there are. What was answered before still holds, as after the second time.
     pub fn list(&mut self, alloc: Global, files: Vec<Listed>) -> Result<(), Refused>
         ensures keeps { StayKnown self.old self.new }
@@ -142,9 +169,10 @@ impl Answers {
         ensures keeps { StayKnown self.old self.new }
         ensures list { self.new.is_listed ≡ self.old.is_listed }
     {
-        let Listed { place, inode } = file;
+        let known = listed(&file);
+        let place = file.place;
         match self.known_at(place.as_str()) {
-            Known::Unknown => self.learn(place, Known::File(inode)),
+            Known::Unknown => self.learn(place, known),
             _ => Ok(()),
         }
     }
@@ -161,17 +189,23 @@ impl Answers {
         requires { known ≡ specs.known_at self.old (string_bytes place) }
         ensures given { IfOk result (λ answer. answer ≡ found) }
         ensures follows { OnOk result (Follows self.old (string_bytes place) (specs.known_of found)) }
+        ensures stamp { OnOk result (HasStamp known (specs.content_of found)) }
         ensures learns { OnOk result
             (Learns self.old self.new (string_bytes place) (specs.known_of found)) }
         ensures unchanged { OnErr result ((other : _)
             → specs.known_at self.new other ≡ specs.known_at self.old other) }
         ensures cause { IfErr result (λ refused. (refused ≡ Memory)
             ⊎ (IsNamed operation.Read (string_bytes place) refused
-            × ¬ Follows self.old (string_bytes place) (specs.known_of found))) }
+            × (Follows self.old (string_bytes place) (specs.known_of found)
+            → HasStamp known (specs.content_of found) → ⊥))) }
     {
         let now = known_of(&found);
         if let Some(change) = change(known, now) {
             let error = io::Error::other(change);
+            return Err(disk.refused(Operation::Read, place.as_str(), error));
+        }
+        if !has_stamp(known, &found) {
+            let error = io::Error::other(CHANGED);
             return Err(disk.refused(Operation::Read, place.as_str(), error));
         }
         self.learn(place, now)?;
@@ -183,9 +217,15 @@ impl Answers {
 fn places_of(alloc: Global, files: Vec<Listed>) -> Result<IndexMap<String, Known>, Refused> {
     let mut places = IndexMap::with_capacity(alloc, files.len())?;
     for file in files {
-        places.insert(file.place, Known::File(file.inode))?;
+        let known = listed(&file);
+        places.insert(file.place, known)?;
     }
     Ok(places)
+}
+
+/// What is known of the place of a file that was listed.
+fn listed(file: &Listed) -> Known {
+    Known::File(file.stat.map(|stat| stat.inode))
 }
 
 /// What is known of a place where this was found.
@@ -218,8 +258,29 @@ fn change(known: Known, now: Known) -> Option<&'static str>
         (Known::Absent | Known::File(_), Known::Absent) => None,
         (Known::Absent, _) => Some("it was not there before"),
         (_, Known::Absent) => Some("it was removed while tup ran"),
-        (Known::File(_), Known::File(_) | Known::Sum(_)) => None,
+        (Known::File(_), Known::File(_) | Known::Sum(_) | Known::Noted(_)) => None,
         (Known::Sum(before), Known::Sum(after)) if before == after => None,
-        _ => Some("it was changed while tup ran"),
+        (Known::Noted(_), Known::Sum(_)) => None,
+        _ => Some(CHANGED),
+    }
+}
+
+/// Whether a content that was found has the stamp that was told of its place, if one was.
+fn has_stamp(known: Known, found: &Found) -> bool
+    ensures { IsTrue result ↔ HasStamp known (specs.content_of found.now) }
+{
+    match known {
+        Known::Noted(stamp) => has(stamp, found),
+        Known::Unknown | Known::Absent | Known::File(_) | Known::Sum(_) => true,
+    }
+}
+
+/// Whether a content that was found has a stamp.
+fn has(stamp: Stamp, found: &Found) -> bool
+    ensures { IsTrue result ↔ HasStamp (Noted stamp) (specs.content_of found.now) }
+{
+    match found {
+        Found::Content(bytes) => stamp_of(bytes.as_slice()) == stamp,
+        Found::Nothing | Found::TooLarge(_) => true,
     }
 }

@@ -9,11 +9,14 @@
 
 mod answers;
 mod failures;
+mod note_disk;
+mod note_file;
+mod notes;
 mod program;
 mod reading;
 mod site;
 mod tree;
 mod writing;
 
-pub use site::FsSite;
+pub use site::{FsSite, QUIET_SECONDS};
 pub use tup_disk::{Failure, Syncs};

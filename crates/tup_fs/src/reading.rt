@@ -1,26 +1,28 @@
 //! One file, read as a whole, or where a link leads.
-ghost use Rattle.std.specs.Prelude.{◌≡◌, IfOk, string_bytes};
+ghost use Rattle.std.specs.Prelude.{◌≡◌, IfOk, MatchOption, string_bytes};
 ghost use Rattle.tup_disk.specs.Place.{place_of};
-ghost use Rattle.tup_fs.specs.Answers.{Follows, Learns, known_of};
+ghost use Rattle.tup_fs.specs.Answers.{Follows, HasStamp, IsKnownBy, Learns, StayKnown, TellsStamp, content_of, known_at, known_of};
 ghost use Rattle.tup_fs.specs.Found.{IsFoundAs, IsTextOf, IsWithin};
 
-use crate::answers::Known;
+use crate::answers::{Known, sum};
+use crate::notes::{Note, stamp_of_whole};
 use crate::tree::Tree;
 use std::fs::File;
 use std::io;
 use std::io::{ErrorKind, Read};
 use std::rt::Files;
-use tup_disk::{Disk, Operation, Refused, Standing};
+use tup_disk::{Disk, Operation, Refused, Standing, Stat};
 use tup_path::{Bytes, Path};
-use tup_site::MAX_FILE_BYTES;
+use tup_site::MAX_DISK_FILE_BYTES;
+use tup_stamp::Stamp;
 
 /// What is found where a file is asked for.
 #[derive(Drop)]
 pub(crate) enum Found {
     Nothing,
-    /// At most `MAX_FILE_BYTES` bytes.
+    /// At most `MAX_DISK_FILE_BYTES` bytes.
     Content(Bytes),
-    /// So many bytes, more than `MAX_FILE_BYTES`.
+    /// So many bytes, more than `MAX_DISK_FILE_BYTES`.
     TooLarge(u64),
 }
 
@@ -35,6 +37,8 @@ impl Tree {
         ensures within { IfOk result IsWithin }
         ensures follows { IfOk result (λ found. Follows self.old.answers
             (place_of (string_bytes disk.now.root) path.now) (known_of found)) }
+        ensures stamp { IfOk result (λ found. HasStamp (known_at self.old.answers
+            (place_of (string_bytes disk.now.root) path.now)) (content_of found)) }
         ensures learns { IfOk result (λ found. Learns self.old.answers self.new.answers
             (place_of (string_bytes disk.now.root) path.now) (known_of found)) }
     {
@@ -70,6 +74,60 @@ impl Tree {
         self.check_spelling(disk, path, place.as_str())
     }
 
+    /// The stamp of the file at a path, if it is noted or may be, and the file wasn't asked for, put or removed since it was
+    /// listed.
+    pub fn noted<R: Files<File = File> + Clone + Drop>(
+        &mut self,
+        disk: &Disk<R>,
+        path: &Path,
+    ) -> Option<Stamp>
+        ensures { MatchOption result (StayKnown self.old.answers self.new.answers)
+            (TellsStamp self.old.answers self.new.answers
+            (place_of (string_bytes disk.now.root) path.now)) }
+    {
+        let place = disk.place(path.names()).ok()?;
+        let Known::File(Some(_)) = self.answers.known_at(place.as_str()) else {
+            return None;
+        };
+        let at = self.answers.index_of(place.as_str())?;
+        match self.notes.at(at)? {
+            Note {
+                stamp: Some(stamp),
+                ..
+            } => self.tell(place, Known::Noted(stamp), stamp),
+            Note { stat, .. } => self.read_noted(disk, place, at, stat),
+        }
+    }
+
+    // Tells the stamp of the file at a place, of which this is known from now on.
+    fn tell(&mut self, place: String, known: Known, stamp: Stamp) -> Option<Stamp>
+        requires { IsKnownBy stamp known }
+        ensures { MatchOption result (StayKnown self.old.answers self.new.answers)
+            (TellsStamp self.old.answers self.new.answers (string_bytes place)) }
+    {
+        match self.answers.learn(place, known) {
+            Ok(()) => Some(stamp),
+            Err(_) => None,
+        }
+    }
+
+    // Reads the file at a place, if it still looks as when it was listed, and notes its stamp.
+    fn read_noted<R: Files<File = File> + Clone + Drop>(
+        &mut self,
+        disk: &Disk<R>,
+        place: String,
+        at: usize,
+        seen: Stat,
+    ) -> Option<Stamp>
+        ensures { MatchOption result (StayKnown self.old.answers self.new.answers)
+            (TellsStamp self.old.answers self.new.answers (string_bytes place)) }
+    {
+        let bytes = read_as_seen(disk, place.as_str(), &seen)?;
+        let stamp = stamp_of_whole(&seen, bytes.as_slice())?;
+        self.notes.note(at, seen, stamp);
+        self.tell(place, Known::Sum(sum(bytes.as_slice())), stamp)
+    }
+
     // What stands at a path now, of whose place this is known.
     fn look<R: Files<File = File> + Clone + Drop>(
         &mut self,
@@ -84,11 +142,11 @@ impl Tree {
         if disk.standing_above(&mut self.seen, path)? != Standing::Folder {
             return Ok(Found::Nothing);
         }
-        if let Some((file, len)) = open_listed(disk, place, known)? {
-            return read_within(disk, file, place, len);
+        if let Some((file, stat)) = open_listed(disk, place, known)? {
+            return read_within(disk, file, place, stat.len);
         }
         match disk.standing(place)? {
-            Standing::File { len, .. } if len > MAX_FILE_BYTES => Ok(Found::TooLarge(len)),
+            Standing::File { len, .. } if len > MAX_DISK_FILE_BYTES => Ok(Found::TooLarge(len)),
             Standing::File { len, .. } => read(disk, disk.open(place)?, place, len),
             Standing::Link => Ok(text_of(disk.target(place)?)),
             _ => Ok(Found::Nothing),
@@ -96,15 +154,32 @@ impl Tree {
     }
 }
 
-/// The file that was listed at a place, if it wasn't read yet and is there still: it isn't looked at by its place again.
+/// The file that was listed at a place, if it wasn't read yet and is there still, with what is seen of it before it is read: it
+/// isn't looked at by its place again.
 fn open_listed<R: Files<File = File> + Clone + Drop>(
     disk: &Disk<R>,
     place: &str,
     known: Known,
-) -> Result<Option<(File, u64)>, Refused> {
+) -> Result<Option<(File, Stat)>, Refused> {
     match known {
         Known::File(Some(inode)) => disk.open_listed(place, inode),
         _ => Ok(None),
+    }
+}
+
+/// What the file at a place holds, if it can be read, and looked so before it was.
+fn read_as_seen<R: Files<File = File> + Clone + Drop>(
+    disk: &Disk<R>,
+    place: &str,
+    seen: &Stat,
+) -> Option<Bytes> {
+    let (file, stat) = disk.open_listed(place, seen.inode).ok()??;
+    if stat != *seen {
+        return None;
+    }
+    match read_within(disk, file, place, stat.len) {
+        Ok(Found::Content(bytes)) => Some(bytes),
+        _ => None,
     }
 }
 
@@ -117,7 +192,7 @@ fn read_within<R: Files<File = File> + Clone + Drop>(
 ) -> Result<Found, Refused>
     ensures { IfOk result IsWithin }
 {
-    if len > MAX_FILE_BYTES {
+    if len > MAX_DISK_FILE_BYTES {
         return Ok(Found::TooLarge(len));
     }
     read(disk, file, place, len)
@@ -140,7 +215,7 @@ fn whole(bytes: Vec<u8>) -> Found
     ensures bytes { IsFoundAs bytes.items result }
 {
     let len = bytes.len() as u64;
-    if len > MAX_FILE_BYTES {
+    if len > MAX_DISK_FILE_BYTES {
         Found::TooLarge(len)
     } else {
         Found::Content(Bytes::new(bytes))
@@ -156,7 +231,7 @@ pub(crate) fn read<R: Files<File = File> + Clone + Drop>(
 ) -> Result<Found, Refused>
     ensures { IfOk result IsWithin }
 {
-    let mut bytes = vec![in disk.alloc; 0u8; len.min(MAX_FILE_BYTES) as usize + 1]?;
+    let mut bytes = vec![in disk.alloc; 0u8; len.min(MAX_DISK_FILE_BYTES) as usize + 1]?;
     match read_into(&mut bytes, file, len) {
         Err(e) if e.kind() == ErrorKind::OutOfMemory => return Err(Refused::Memory),
         done => disk.at(Operation::Read, place, done)?,
@@ -175,7 +250,7 @@ fn read_into(bytes: &mut Vec<u8>, file: File, len: u64) -> io::Result<()> {
     bytes.truncate(first);
     let first = first as u64;
     if first != len {
-        file.take((MAX_FILE_BYTES + 1).saturating_sub(first))
+        file.take((MAX_DISK_FILE_BYTES + 1).saturating_sub(first))
             .read_to_end(bytes)?;
     }
     Ok(())

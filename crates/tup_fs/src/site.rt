@@ -1,26 +1,34 @@
 //! The site over real files.
-ghost use Rattle.std.specs.Prelude.{◌≡◌, [], false, IfOk, OnOk, OnErr, IsErr, IsTrue, is_some, nat_lt, string_bytes};
+ghost use Rattle.std.specs.Prelude.{◌≡◌, [], false, IfOk, MatchOption, OnOk, OnErr, IsErr, IsTrue, is_some, nat_lt, string_bytes};
 ghost use Rattle.std.specs.BTreeSet.{IsEmpty};
 ghost use Rattle.std.specs.FinMap as finite;
 ghost use Rattle.tup_db.specs.Own.{IsOwnBelow};
 ghost use Rattle.tup_disk.specs.Marked.{IsMarked, AllMarked, StayMarked, places_above};
 ghost use Rattle.tup_disk.specs.Place.{place_of};
-ghost use Rattle.tup_fs.specs.Answers.{Follows, Learns, known_at, known_by, sum};
+ghost use Rattle.tup_fs.specs.Answers.{Follows, HasStamp, Learns, StayKnown, TellsStamp, known_at, known_by, sum};
 ghost use Rattle.tup_fs.specs.Last.{CountsOnce, CountsPlainly};
 ghost use Rattle.tup_fs.specs.declared.answers.Known.TheVariants.{Absent, Sum};
-ghost use Rattle.tup_site.specs.Cause.{OnlyLarge, IsSmall};
+ghost use Rattle.tup_site.specs.Cause.{OnlyLarge};
+ghost use Rattle.tup_site.specs.Limits.{IsWithin, OnlyOver, greatest};
 
 use crate::failures::Failures;
+use crate::notes::{Since, nanos};
 use crate::reading::Found;
 use crate::tree::Tree;
 use std::alloc::{AllocError, Global};
 use std::fs::File;
 use std::mem;
 use std::rt::Files;
+use std::time::Duration;
 use tup_db::Store;
 use tup_disk::{Disk, Failure, Syncs, Touched};
 use tup_path::{Bytes, Path, Paths};
-use tup_site::{Site, SiteFailed};
+use tup_site::{Limits, Site, SiteFailed};
+use tup_stamp::Stamp;
+
+/// How many seconds before a call a file has to have been changed, so that its stamp is noted: by then the system has written what
+/// came through a map of the file to the disk, and gives the next such write a new time of change.
+pub const QUIET_SECONDS: u64 = 60;
 
 /// The real files below a folder, and the store `.tup/db` there. It tells nothing but its count of
 /// faults: each failing call of the system is one.
@@ -64,8 +72,16 @@ impl<R: Files<File = File> + Clone + Drop> FsSite<R> {
         self.failures.last()
     }
 
-    /// Gives back the lock. What is known of the files isn't freed piece by piece: this is for a program that ends.
+    /// From now on the stamps of files are noted in `.tup/stamps`, and those that are there count: of files that were changed
+    /// so many seconds before this call of the program began. That was so long after 1970.
+    pub fn keep_stamps(&mut self, began: Duration, seconds: u64) {
+        self.tree.notes.keep(Since::new(nanos(began), seconds));
+    }
+
+    /// Writes what is noted of the files, and gives back the lock. What is known of them isn't freed piece by piece: this is for a
+    /// program that ends.
     pub fn leave(self) {
+        self.tree.notes.write(&self.disk, &self.tree.answers);
         mem::forget(self.tree);
     }
 
@@ -125,6 +141,7 @@ impl<R: Files<File = File> + Clone + Drop> FsSite<R> {
 }
 
 impl<R: Files<File = File> + Clone + Drop + Send> Site for FsSite<R> {
+    ghost use Rattle.tup_site.specs.Laws.{greatest_law};
     ghost use Rattle.tup_site.specs.World.{World};
 
     ghost tells = { false };
@@ -138,6 +155,12 @@ impl<R: Files<File = File> + Clone + Drop + Send> Site for FsSite<R> {
     ghost left_since = { λ _ _ _. ⊥ };
 
     ghost faults = { λ site. site.failures.count };
+
+    ghost limits = { greatest };
+
+    ghost are_limits = { greatest_law };
+
+    ghost told_limits = { λ no. Prim.cc };
 
     ghost is_tree = { λ site no. Prim.cc };
 
@@ -164,13 +187,29 @@ impl<R: Files<File = File> + Clone + Drop + Send> Site for FsSite<R> {
         Ok(Paths::from_vec(self.failures.told(files)?))
     }
 
+    // A file whose stamp may be noted and isn't yet is read, for that. All that fails means that no stamp is told.
+    fn noted(&mut self, _alloc: Global, path: &Path) -> Result<Option<Stamp>, SiteFailed>
+        ensures tells { IfOk result (λ found. MatchOption found
+            (StayKnown self.old.tree.answers self.new.tree.answers)
+            (TellsStamp self.old.tree.answers self.new.tree.answers
+            (place_of (string_bytes self.old.disk.root) path.now))) }
+        ensures cause { CountsPlainly self.old.failures.count self.new.failures.count result }
+        ensures touched { self.new.touched ≡ self.old.touched }
+        ensures store { self.new.store ≡ self.old.store }
+    {
+        Ok(self.tree.noted(&self.disk, path))
+    }
+
     fn get(&mut self, _alloc: Global, path: &Path) -> Result<Option<Bytes>, SiteFailed>
         ensures locked { OnOk result (IsTrue (is_some self.new.lock)) }
-        ensures small { IfOk result IsSmall }
+        ensures within { IfOk result (IsWithin greatest) }
+        ensures over { OnlyOver greatest result }
         ensures too_large { OnlyLarge result }
         ensures cause { CountsOnce self.old.failures.count self.new.failures.count result }
         ensures follows { IfOk result (λ found. Follows self.old.tree.answers
             (place_of (string_bytes self.old.disk.root) path.now) (known_by found)) }
+        ensures stamp { IfOk result (λ found. HasStamp (known_at self.old.tree.answers
+            (place_of (string_bytes self.old.disk.root) path.now)) found) }
         ensures learns { IfOk result (λ found. Learns self.old.tree.answers self.new.tree.answers
             (place_of (string_bytes self.old.disk.root) path.now) (known_by found)) }
         ensures touched { self.new.touched ≡ self.old.touched }
@@ -308,5 +347,9 @@ impl<R: Files<File = File> + Clone + Drop + Send> Site for FsSite<R> {
 
     fn faults(&self) -> u64 {
         self.failures.count()
+    }
+
+    fn limits(&self) -> Limits {
+        Limits::of_disk()
     }
 }

@@ -4,6 +4,7 @@ ghost use Rattle.std.specs.List.Sorted.{IsSorted};
 ghost use Rattle.tup_path.specs.Order.{by_names};
 
 use crate::answers::Answers;
+use crate::notes::Notes;
 use std::alloc::Global;
 use std::fs::File;
 use std::rt::Files;
@@ -11,12 +12,13 @@ use tup_disk::{Disk, Listing, Refused, Seen};
 use tup_path::Path;
 
 /// What is known of the tree: the folders that were seen, whether the file system may ignore case,
-/// once that was asked, and what was answered for its files.
+/// once that was asked, what was answered for its files, and what is noted of them.
 #[derive(Drop)]
 pub(crate) struct Tree {
     pub seen: Seen,
     pub ignores_case: Option<bool>,
     pub answers: Answers,
+    pub notes: Notes,
 }
 
 impl Tree {
@@ -25,6 +27,7 @@ impl Tree {
             seen: Seen::new(alloc),
             ignores_case: None,
             answers: Answers::new(alloc),
+            notes: Notes::none(alloc),
         }
     }
 
@@ -36,6 +39,9 @@ impl Tree {
         ensures { IfOk result (λ files. IsSorted by_names files.items) }
     {
         let Listing { paths, places } = disk.files(&mut self.seen)?;
+        if self.answers.is_new() {
+            self.notes.list(disk, &places)?;
+        }
         self.answers.list(disk.alloc, places)?;
         Ok(paths)
     }
