@@ -3,6 +3,7 @@ ghost use Rattle.std.specs.Prelude.{IfOk};
 ghost use Rattle.tup_top.specs.Crew.{IsCrew};
 
 use crate::screen::{ErrorScreen, Kept};
+use crate::streams::was_closed;
 use crate::top::Top;
 use std::alloc::{AllocError, Global};
 use std::process;
@@ -41,7 +42,8 @@ pub(crate) struct Seats {
 }
 
 impl Seats {
-    /// Those of a new update of a project by so many runners. What commands print is kept where several may run at once.
+    /// Those of a new update of a project by so many runners. What commands print is kept where several may run at once, and where
+    /// a stream was closed: else they would have none to print to.
     pub(crate) fn new(
         rt: HostRuntime,
         alloc: Global,
@@ -51,7 +53,7 @@ impl Seats {
         Ok(Seats {
             above: Text::from_string(top.place(alloc, STAGES)?),
             update: update_name(rt, alloc)?,
-            keeps: jobs > 1,
+            keeps: jobs > 1 || was_closed(rt),
         })
     }
 
@@ -128,7 +130,7 @@ fn update_name(rt: HostRuntime, alloc: Global) -> Result<Text, AllocError> {
 }
 
 /// The time since 1970, none where the clock doesn't tell.
-fn since_1970(clock: &impl Clock) -> Duration {
+pub(crate) fn since_1970(clock: &impl Clock) -> Duration {
     match SystemTime::now(clock) {
         Ok(now) => now.duration_since(UNIX_EPOCH).unwrap_or(Duration::ZERO),
         Err(_) => Duration::ZERO,

@@ -1,6 +1,6 @@
 //! What standard error says beside the last line of an order.
 
-use crate::top::Top;
+use crate::top::{Top, is_named_in_text};
 use std::alloc::{AllocError, Global};
 use std::fs::File;
 use std::os::unix::fs::FileExt;
@@ -79,6 +79,18 @@ pub(crate) fn name_runner(rt: HostRuntime, status: &Status, program: &Option<Tex
             // Words that can't be printed change nothing: the exit number tells as much.
             drop(eprintln!(rt;
                 "tup: `tup verify` runs the built-in commands alone, and {program} runs those of this project"
+            ));
+        }
+    }
+}
+
+/// Why a program of the project may have failed, where its folder has a path that no word of a program can be.
+pub(crate) fn name_folder(rt: HostRuntime, status: &Status) {
+    if let Status::RunFault = status {
+        if !is_named_in_text(rt) {
+            // Words that can't be printed change nothing: the exit number tells as much.
+            drop(eprintln!(rt;
+                "tup: the path of this folder isn't UTF-8: a program that runs the commands may not be able to work in it"
             ));
         }
     }

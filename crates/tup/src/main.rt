@@ -7,33 +7,39 @@
 
 ghost use Rattle.tup_top.specs.Crew.{IsCrew};
 
+mod blame;
 mod crew;
 mod error_log;
 mod hint;
+mod made;
 mod option_files;
 mod options;
 mod output;
+mod own;
 mod screen;
+mod stages;
 mod streams;
 mod top;
+mod usage;
 mod words;
 
-use crew::{Seats, crew_of, minis, starters};
+use crew::{Seats, crew_of, minis, since_1970, starters};
 use error_log::ErrorLog;
 use options::{Options, Voice};
-use output::Output;
+use output::{Counts, Lines, Output};
 use screen::{ErrorScreen, manner};
 use std::alloc::{AllocError, Global};
+use std::io;
+use std::io::IsTerminal;
 use std::process::ExitCode;
 use std::rt::Clock;
 use std::sync::Wait;
 use std::thread::Threads;
-use std::time::{Duration, SystemTime, UNIX_EPOCH};
-use std::{io, process};
+use std::time::Duration;
 use top::Top;
-use tup_fs::{FsSite, Syncs};
+use tup_fs::{FsSite, QUIET_SECONDS, Syncs};
 use tup_path::Text;
-use tup_proc_runner::ProcRunner;
+use tup_proc_runner::{ProcFault, ProcRunner};
 use tup_progress::{Manner, Progress, Started};
 use tup_runner::Runner;
 use tup_tell::LineReporter;
@@ -51,6 +57,8 @@ tup makes the files that the Tupfiles of a project ask for. It may be called in 
   tup, tup upd    update: remove the files of vanished rules, run the rules that aren't up to date, and no others
   tup todo        list what an update would remove and run, and change no file
   tup verify      compare the files with a clean build, and touch none
+  tup outputs     list what the project has made, as for a .gitignore
+  tup clean       remove what it has made, but for what was changed by hand
   tup demo        show an update of a small project in memory
   tup large N     show what updates of a project of N folders in memory do, 1 to 1000
   tup --proc P    update, each command run through the program P; also tup upd --proc P
@@ -72,7 +80,7 @@ Exit numbers: 0 done, 1 a command's fault, 2 usage, 3 no project here, or one al
 const JOBS: u32 = 4;
 
 /// The version. The tests, the manual and the Makefile read it here.
-const VERSION: &str = "0.12";
+const VERSION: &str = "0.13";
 
 /// How many bytes the block has that is freed first.
 const FIRST_BLOCK: usize = 33_000_000;
@@ -82,7 +90,10 @@ fn main(rt: HostRuntime) -> ExitCode {
     keep_blocks(rt.alloc());
     let status = match words(&rt, rt.alloc()) {
         Ok(words) => answer(rt, &rt, rt.alloc(), &words),
-        Err(status) => told(&rt, status),
+        Err(status) => {
+            usage::explain_unread(rt, &status);
+            told(&rt, status)
+        }
     };
     ExitCode::from(status)
 }
@@ -101,11 +112,14 @@ fn answer<W: Threads + Wait + Sync>(
     words: &[Word],
 ) -> u8 {
     match words {
-        [word] if word.0.as_str() == "--help" => shown(print!(rt; "{HELP}")),
+        [word] if matches!(word.0.as_str(), "--help" | "-h") => shown(print!(rt; "{HELP}")),
         [word] if word.0.as_str() == "--version" => shown(println!(rt; "tup {VERSION}")),
         [word, options @ ..] if word.0.as_str() == "init" => {
             init(rt, crews, alloc, &words[..1], options)
         }
+        [word] if word.0.as_str() == "outputs" => outputs(rt, alloc),
+        [word] if word.0.as_str() == "clean" => clean(rt, alloc),
+        [word, _, ..] if matches!(word.0.as_str(), "outputs" | "clean") => refuse_second(rt, words),
         [word, more @ ..] if word.0.as_str() == "large" => {
             show(rt, tup_large::large(crews, alloc, more))
         }
@@ -113,10 +127,18 @@ fn answer<W: Threads + Wait + Sync>(
     }
 }
 
+/// Says that no word may follow the first.
+fn refuse_second(rt: HostRuntime, words: &[Word]) -> u8 {
+    let status = Status::Usage { place: 2 };
+    usage::explain(rt, words, &status);
+    told(&rt, status)
+}
+
 /// Prints what is shown of a large project, and gives the exit number. A failure of the output is
 /// told where all else went well.
 fn show(rt: HostRuntime, large: tup_large::Shown) -> u8 {
     let tup_large::Shown { lines, status } = large;
+    usage::explain_large(rt, &status);
     let printed = shown(print!(rt; "{lines}"));
     match status.exit() {
         0 => printed,
@@ -133,7 +155,8 @@ struct Call<'a> {
     manner: Manner,
 }
 
-/// Begins a project in the working folder, with these options.
+/// Begins a project in the working folder, with these options; where one has begun there, it has these options now. They are
+/// written before the store: so no project begins without them, whatever stops this.
 fn init<W: Threads + Wait + Sync>(
     rt: HostRuntime,
     crews: &W,
@@ -148,9 +171,10 @@ fn init<W: Threads + Wait + Sync>(
     let Ok(here) = Top::here(alloc) else {
         return told(&rt, Status::Memory);
     };
-    match run_small(rt, crews, alloc, word, &here, syncs) {
-        Status::Done { .. } => option_files::write(rt, alloc, options),
-        status => status.exit(),
+    match option_files::begin(rt, alloc, &here, options, syncs) {
+        Ok(None) => run_small(rt, crews, alloc, word, &here, syncs).exit(),
+        Ok(Some(status)) => status,
+        Err(status) => status,
     }
 }
 
@@ -242,6 +266,22 @@ fn verify<W: Threads + Wait + Sync>(
     }
 }
 
+/// Lists what the project has made.
+fn outputs(rt: HostRuntime, alloc: Global) -> u8 {
+    match top::find(rt, alloc) {
+        Ok(top) => made::list(rt, alloc, &top),
+        Err(status) => status,
+    }
+}
+
+/// Removes what the project has made.
+fn clean(rt: HostRuntime, alloc: Global) -> u8 {
+    match project(rt, alloc) {
+        Ok((top, options)) => made::clean(rt, alloc, &top, options.syncs),
+        Err(status) => status,
+    }
+}
+
 /// Updates the files of the project. What the call asks for comes before what the options say.
 fn update<W: Threads + Wait + Sync>(
     rt: HostRuntime,
@@ -287,7 +327,10 @@ fn begin<W: Threads + Wait + Sync>(
     let Ok(words) = init_word(alloc) else {
         return told(&rt, Status::Memory);
     };
-    run_small(rt, crews, alloc, &words, top, syncs).exit()
+    match option_files::begin(rt, alloc, top, &[], syncs) {
+        Ok(_) => run_small(rt, crews, alloc, &words, top, syncs).exit(),
+        Err(status) => status,
+    }
 }
 
 /// The word that begins a project.
@@ -390,9 +433,10 @@ fn run<W: Threads + Wait + Sync, R: Runner + Send>(
 ) -> (Status, Vec<R>)
     requires { IsCrew runners.items }
 {
-    let Ok(site) = FsSite::new(rt, alloc, call.top.root.as_str(), call.syncs) else {
+    let Ok(mut site) = FsSite::new(rt, alloc, call.top.root.as_str(), call.syncs) else {
         return (no_memory(rt), runners);
     };
+    note_stamps(rt, &mut site);
     let Ok(back) = Vec::with_capacity(alloc, runners.len()) else {
         return (no_memory(rt), runners);
     };
@@ -400,6 +444,13 @@ fn run<W: Threads + Wait + Sync, R: Runner + Send>(
     match crew_of(rt, alloc, call.manner, &started, seats, runners) {
         Ok(crew) => run_crew(rt, crews, alloc, call, site, crew, &started, back),
         Err(_) => (no_memory(rt), back),
+    }
+}
+
+/// Has a site keep the stamps of files in `.tup/stamps`. Without a clock it doesn't.
+fn note_stamps(rt: HostRuntime, site: &mut FsSite<HostRuntime>) {
+    if let Ok(now) = rt.since_1970() {
+        site.keep_stamps(now, QUIET_SECONDS);
     }
 }
 
@@ -416,7 +467,9 @@ fn run_crew<W: Threads + Wait + Sync, R: Runner + Send>(
 ) -> (Status, Vec<R>)
     requires { IsCrew crew.items }
 {
-    let mut output = Output::new(&rt, call.manner == Manner::Over);
+    let began = since_1970(&rt);
+    let lines = lines_of(rt, call);
+    let mut output = Output::new(&rt, call.manner == Manner::Over, lines);
     let Ok(mut tellers) = log_of(rt, alloc, call) else {
         return (no_memory(rt), back);
     };
@@ -430,18 +483,47 @@ fn run_crew<W: Threads + Wait + Sync, R: Runner + Send>(
         &mut tellers,
         &mut output,
     );
-    if let Some(failure) = ran.site.last() {
+    let (status, mut site, crew) = (ran.status, ran.site, ran.crew);
+    if lines == Lines::Short {
+        tell_counts(rt, &status, output.counts, began);
+    }
+    if let Some(failure) = site.last() {
         // Words that can't be printed change nothing: the exit number tells as much.
         drop(eprintln!(rt; "tup: {failure}"));
     }
-    hint::begin(rt, call.top, &ran.status);
-    hint::begin_anew(rt, alloc, call.top, &ran.status);
-    ran.site.leave();
-    for progress in ran.crew {
+    hint::begin(rt, call.top, &status);
+    hint::begin_anew(rt, alloc, call.top, &status);
+    blame::explain(rt, alloc, call.top, &mut site, &status);
+    usage::explain(rt, call.words, &status);
+    site.leave();
+    for progress in crew {
         // Without room it is dropped.
         drop(back.push(progress.into_runner()));
     }
-    (ran.status, back)
+    (status, back)
+}
+
+/// How standard output takes the lines of a call: at a terminal where each command was shown, only those that say more.
+fn lines_of(rt: HostRuntime, call: &Call) -> Lines {
+    let is_shown = call.manner == Manner::Over && rt.stdout().is_terminal();
+    match order_of(call.words) {
+        Ok(Order::Upd { explain: false, .. }) if is_shown => Lines::Short,
+        _ => Lines::All,
+    }
+}
+
+/// Tells how many commands were run, and how long that took, where any were.
+fn tell_counts(rt: HostRuntime, status: &Status, counts: Counts, began: Duration) {
+    let Counts { good, bad } = counts;
+    let seconds = since_1970(&rt).saturating_sub(began).as_secs();
+    // Words that can't be printed change nothing.
+    drop(match status {
+        _ if bad > 0 => eprintln!(rt; "tup: {bad} failed, {good} ran, {seconds} s"),
+        Status::Done { ran, removed, .. } if *ran > 0 || *removed > 0 => {
+            eprintln!(rt; "tup: {ran} commands, {removed} removed, {seconds} s")
+        }
+        _ => Ok(()),
+    });
 }
 
 /// Who writes what an update did to standard error, where the words ask for that.
@@ -479,17 +561,32 @@ fn run_through<W: Threads + Wait + Sync>(
     let Ok(runners) = starters(rt, alloc, call.top, program, &seats, jobs) else {
         return told(&rt, Status::Memory);
     };
+    if let Err(status) = stages::check(rt, alloc, call.top) {
+        return status;
+    }
     let (status, runners) = run(rt, crews, alloc, call, Some(&seats), runners);
     tell_faults(rt, program, &runners);
+    leave(alloc, runners.as_slice());
+    hint::name_folder(rt, &status);
     status.exit()
 }
 
-/// Prints why the runners of a program failed. What is to be said of several, one after another, is printed once.
+/// Removes what the last commands left. Behind a fault all stays: whoever looks for the cause finds it there.
+fn leave(alloc: Global, runners: &[ProcRunner<HostRuntime>]) {
+    if runners.iter().all(|runner| runner.last().is_none()) {
+        for runner in runners {
+            runner.leave(alloc);
+        }
+    }
+}
+
+/// Prints why the runners of a program failed, unless the program said it. What is to be said of several, one after another, is
+/// printed once.
 fn tell_faults(rt: HostRuntime, program: &Text, runners: &[ProcRunner<HostRuntime>]) {
     let mut before = None;
     for runner in runners {
         if let Some(fault) = runner.last() {
-            if before != Some(fault) {
+            if before != Some(fault) && *fault != ProcFault::Told {
                 // Words that can't be printed change nothing: the exit number tells as much.
                 drop(eprintln!(rt; "tup: {program}: {fault}"));
             }
@@ -499,7 +596,7 @@ fn tell_faults(rt: HostRuntime, program: &Text, runners: &[ProcRunner<HostRuntim
 }
 
 /// The exit number of a text that was to be printed.
-fn shown(printed: io::Result<()>) -> u8 {
+pub(crate) fn shown(printed: io::Result<()>) -> u8 {
     match printed {
         Ok(()) => 0,
         Err(_) => Status::SinkFault.exit(),

@@ -3,33 +3,44 @@
 //! They are `.tup/options`, and behind it `Tupfile.ini`. They say how the site is used, so they are read
 //! before there is one.
 use crate::options::{Fault, Options};
-use crate::told;
+use crate::own::Own;
 use crate::top::{SHARED_OPTIONS, Top};
+use crate::{shown, told};
 use std::alloc::{AllocError, Global};
+use std::fs;
 use std::io::ErrorKind;
-use std::{fs, io};
+use tup_disk::{Failure, Operation, Refused};
+use tup_fs::Syncs;
 use tup_path::Text;
 use tup_top::{Status, Word};
 
-/// Where the options of this checkout stand.
-const OWN_OPTIONS: &str = ".tup/options";
-
 /// The options of a project; or else the exit number, where the reason was told.
 pub(crate) fn read(rt: HostRuntime, alloc: Global, top: &Top) -> Result<Options, u8> {
-    let own = read_file(rt, alloc, top, OWN_OPTIONS)?;
+    let own = read_own(rt, alloc, top)?;
     if !top.is_shared {
         return Ok(own);
     }
-    let shared = read_file(rt, alloc, top, SHARED_OPTIONS)?;
+    let Ok(place) = top.place(alloc, SHARED_OPTIONS) else {
+        return Err(told(&rt, Status::Memory));
+    };
+    let shared = read_file(rt, alloc, top, place.as_str())?;
     Ok(own.before(shared))
 }
 
-/// The options in a file of the top folder, none where there is no file.
-fn read_file(rt: HostRuntime, alloc: Global, top: &Top, name: &str) -> Result<Options, u8> {
-    let Ok(place) = top.place(alloc, name) else {
+/// The options of this checkout.
+fn read_own(rt: HostRuntime, alloc: Global, top: &Top) -> Result<Options, u8> {
+    let Ok(own) = Own::of(rt, alloc, top, Syncs::Done) else {
         return Err(told(&rt, Status::Memory));
     };
-    let place = place.as_str();
+    match own.has_options() {
+        Ok(true) => read_file(rt, alloc, top, own.options.as_str()),
+        Ok(false) => Ok(Options::none()),
+        Err(refused) => Err(failed(rt, refused)),
+    }
+}
+
+/// The options in a file at a place, none where there is no file.
+fn read_file(rt: HostRuntime, alloc: Global, top: &Top, place: &str) -> Result<Options, u8> {
     match fs::read_to_string(&rt, place) {
         Ok(text) => read_text(rt, alloc, top, place, text.as_str()),
         Err(e) if is_no_file(e.kind()) => Ok(Options::none()),
@@ -38,7 +49,10 @@ fn read_file(rt: HostRuntime, alloc: Global, top: &Top, name: &str) -> Result<Op
             drop(eprintln!(rt; "tup: {place}: unknown word that isn't UTF-8"));
             Err(2)
         }
-        Err(e) => Err(failed(rt, "read", place, &e)),
+        Err(e) => {
+            let failure = Failure::new(alloc, Operation::Read, place, e);
+            Err(failed(rt, Refused::Failed(failure)))
+        }
     }
 }
 
@@ -121,23 +135,83 @@ fn is_line(program: &str) -> bool {
 fn refuse(rt: HostRuntime, fault: &Fault, place: u32) -> u8 {
     match fault {
         Fault::Memory => told(&rt, Status::Memory),
-        _ => told(&rt, Status::Usage { place }),
+        _ => {
+            // Words that can't be printed change nothing: the exit number tells as much.
+            drop(eprintln!(rt; "tup: {fault}"));
+            told(&rt, Status::Usage { place })
+        }
     }
 }
 
-/// Writes the options of the project that has begun in the working folder, a word a line; gives the
-/// exit number.
-pub(crate) fn write(rt: HostRuntime, alloc: Global, words: &[Word]) -> u8 {
-    if words.is_empty() {
-        return 0;
-    }
-    let Ok(text) = lines(alloc, words) else {
-        return told(&rt, Status::Memory);
+/// Begins what is before the store of the project that is to begin: its own folder, and the options in it, a word a line. Where the
+/// project has begun and there are options, these are its options now, and the exit number is given, where that was told. Or else
+/// the exit number, where the reason was told.
+pub(crate) fn begin(
+    rt: HostRuntime,
+    alloc: Global,
+    top: &Top,
+    words: &[Word],
+    syncs: Syncs,
+) -> Result<Option<u8>, u8> {
+    let Ok(own) = Own::of(rt, alloc, top, syncs) else {
+        return Err(told(&rt, Status::Memory));
     };
-    match fs::write(&rt, OWN_OPTIONS, text.as_str()) {
-        Ok(()) => 0,
-        Err(e) => failed(rt, "write", OWN_OPTIONS, &e),
+    match put(rt, alloc, &own, words) {
+        Ok(true) => Ok(Some(tell_options(rt, alloc, words))),
+        Ok(false) => Ok(None),
+        Err(refused) => Err(failed(rt, refused)),
     }
+}
+
+/// Writes the options of a project, if there are any; returns whether it had begun and they were written.
+fn put(rt: HostRuntime, alloc: Global, own: &Own, words: &[Word]) -> Result<bool, Refused> {
+    let has_begun = own.has_store()?;
+    if words.is_empty() {
+        if !has_begun {
+            own.make()?;
+        }
+        return Ok(false);
+    }
+    let text = lines(alloc, words)?;
+    if own.has_options()? {
+        tell_former(rt, alloc, own.options.as_str(), text.as_str())?;
+    }
+    own.write_options(text.as_str())?;
+    Ok(has_begun)
+}
+
+/// Prints the options that a project has now, in a line; gives the exit number.
+fn tell_options(rt: HostRuntime, alloc: Global, words: &[Word]) -> u8 {
+    match lines(alloc, words).and_then(|text| in_a_line(alloc, text.as_str())) {
+        Ok(options) => shown(println!(rt; "options:{options}")),
+        Err(_) => told(&rt, Status::Memory),
+    }
+}
+
+/// Prints which options stand at a place, where this text is to take their place and has others.
+fn tell_former(rt: HostRuntime, alloc: Global, place: &str, text: &str) -> Result<(), AllocError> {
+    // What can't be read says nothing.
+    if let Ok(former) = fs::read_to_string(&rt, place) {
+        let options = in_a_line(alloc, former.as_str())?;
+        if former.as_str() != text && !options.is_empty() {
+            // Words that can't be printed change nothing.
+            drop(eprintln!(rt; "tup: the options of {place} were:{options}"));
+        }
+    }
+    Ok(())
+}
+
+/// The lines of options in one, each behind a blank. Notes are left out.
+fn in_a_line(alloc: Global, text: &str) -> Result<String, AllocError> {
+    let mut line = String::new(alloc);
+    for option in text.lines() {
+        let option = option.trim();
+        if !option.is_empty() && !option.starts_with('#') {
+            line.push(' ')?;
+            line.push_str(option)?;
+        }
+    }
+    Ok(line)
 }
 
 /// A line for each word.
@@ -150,8 +224,14 @@ fn lines(alloc: Global, words: &[Word]) -> Result<String, AllocError> {
     Ok(text)
 }
 
-fn failed(rt: HostRuntime, operation: &str, place: &str, error: &io::Error) -> u8 {
-    // Words that can't be printed change nothing: the exit number tells as much.
-    drop(eprintln!(rt; "tup: {operation} {place}: {error}"));
-    told(&rt, Status::SiteFault)
+/// Prints why something of the program's own folder wasn't done; gives the exit number.
+fn failed(rt: HostRuntime, refused: Refused) -> u8 {
+    match refused {
+        Refused::Memory => told(&rt, Status::Memory),
+        Refused::Failed(failure) => {
+            // Words that can't be printed change nothing: the exit number tells as much.
+            drop(eprintln!(rt; "tup: {failure}"));
+            told(&rt, Status::SiteFault)
+        }
+    }
 }

@@ -10,23 +10,43 @@ use tup_path::Bytes;
 use tup_progress::CLEAR;
 use tup_tell::{Sink, SinkFailed};
 
+/// How standard output takes the lines.
+#[derive(Clone, Copy, PartialEq, Eq)]
+pub(crate) enum Lines {
+    /// All of them.
+    All,
+    /// All but those of folders that were read and of commands that were good: who was there has seen these.
+    Short,
+}
+
+/// How many commands the lines tell of.
+#[derive(Clone, Copy)]
+pub(crate) struct Counts {
+    pub(crate) good: u64,
+    pub(crate) bad: u64,
+}
+
 /// Standard output. It tells nothing but its count of failed writes.
 #[derive(Drop)]
-pub struct Output<'a, P: Print + Eprint> {
+pub(crate) struct Output<'a, P: Print + Eprint> {
     to: &'a P,
     clears: bool,
+    lines: Lines,
+    pub(crate) counts: Counts,
     faults: u64,
 }
 
 impl<'a, P: Print + Eprint> Output<'a, P> {
     /// The sink of a program's standard output. No write has failed yet. Before each the line that stands on standard error
     /// is taken away, if there may be one.
-    pub fn new(to: &'a P, clears: bool) -> Output<'a, P>
+    pub(crate) fn new(to: &'a P, clears: bool, lines: Lines) -> Output<'a, P>
         ensures { result.faults ≡ 0 }
     {
         Output {
             to,
             clears,
+            lines,
+            counts: Counts { good: 0, bad: 0 },
             faults: 0,
         }
     }
@@ -44,7 +64,11 @@ impl<P: Print + Eprint> Sink for Output<'_, P> {
             // A line that can't be taken away changes nothing.
             drop(eprint!(self.to; "{CLEAR}"));
         }
-        match io::writer(self.to).write_all(bytes.as_slice()) {
+        let printed = match self.lines {
+            Lines::All => io::writer(self.to).write_all(bytes.as_slice()),
+            Lines::Short => print_short(self.to, bytes.as_slice(), &mut self.counts),
+        };
+        match printed {
             Ok(()) => Ok(()),
             Err(_) => {
                 self.faults = self.faults.saturating_add(1);
@@ -56,4 +80,19 @@ impl<P: Print + Eprint> Sink for Output<'_, P> {
     fn faults(&self) -> u64 {
         self.faults
     }
+}
+
+/// Prints those of some lines that are printed to a terminal, and counts the commands that all of them tell of.
+fn print_short<P: Print>(to: &P, lines: &[u8], counts: &mut Counts) -> io::Result<()> {
+    for line in lines.split_inclusive(|byte| *byte == b'\n') {
+        if line.starts_with(b"run ".as_slice()) {
+            counts.good = counts.good.saturating_add(1);
+        } else if !line.starts_with(b"read ".as_slice()) {
+            if line.starts_with(b"bad ".as_slice()) {
+                counts.bad = counts.bad.saturating_add(1);
+            }
+            io::writer(to).write_all(line)?;
+        }
+    }
+    Ok(())
 }

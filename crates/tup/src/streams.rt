@@ -1,4 +1,5 @@
 //! Standard streams that were closed.
+use std::fs;
 use std::fs::File;
 use std::os::fd::{AsRawFd, IntoRawFd};
 
@@ -12,5 +13,18 @@ pub(crate) fn fill(rt: HostRuntime) {
             }
             _ => return,
         }
+    }
+}
+
+/// Whether standard output or standard error was closed: a folder is open there then, which no program that is started is given.
+pub(crate) fn was_closed(rt: HostRuntime) -> bool {
+    is_folder(rt, "/proc/self/fd/1") || is_folder(rt, "/proc/self/fd/2")
+}
+
+/// Whether a folder is open at a place.
+fn is_folder(rt: HostRuntime, place: &str) -> bool {
+    match fs::metadata(&rt, place) {
+        Ok(found) => found.is_dir(),
+        Err(_) => false,
     }
 }

@@ -201,6 +201,15 @@ fn folders_above(rt: HostRuntime) -> usize {
     }
 }
 
+/// Whether the path of the working folder is a text, as far as it has one.
+pub(crate) fn is_named_in_text(rt: HostRuntime) -> bool {
+    let mut buffer = [0; LONGEST];
+    match rt.current_dir(&mut buffer) {
+        Ok(len) => str::from_utf8(&buffer[..len]).is_ok(),
+        Err(_) => true,
+    }
+}
+
 fn slashes(path: &[u8]) -> usize {
     path.iter().filter(|byte| **byte == b'/').count()
 }
