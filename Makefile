@@ -4,13 +4,14 @@ TUP = crates/tup/out/tup
 SH = crates/tup_sh/out/tup_sh
 SHIM = crates/tup_shim/out/tup_shim
 MAN = $(DESTDIR)$(PREFIX)/share/man/man1/tup.1
+OUTSIDE = crates/tup_outside_rows/out/tup_outside_rows
 ROWS = $(foreach storey,language core board top,crates/tup_$(storey)_rows/out/tup_$(storey)_rows)
 # How many crates are proved at once; each takes up to 4 GB of memory.
 JOBS ?= $(shell nproc)
 TEXTS := crates.txt HANDLES $(shell find crates -name out -prune -o '(' -name '*.rt' -o -name '*.antt' ')' -print)
 VERSION = $(shell sed -n 's/^const VERSION: &str = "\(.*\)";/\1/p' crates/tup/src/main.rt)
 
-.PHONY: help look build runners demo check above promises definitions reach books refusals rows test edits seats try examples shell real killed model figures figures-crew fmt times tag install uninstall clean
+.PHONY: help look build runners demo check above promises definitions reach books refusals rows test edits seats try examples shell lot containers stamps real killed model figures figures-crew fmt times tag install uninstall clean
 
 help:
 	@echo 'make build      proves and builds the program, and has it print its version; JOBS=2 proves two crates at once (else as many as processors)'
@@ -29,7 +30,10 @@ help:
 	@echo 'make seats      tries workers in threads of their own, at a board and in a scan (some minutes; nothing of that is proved)'
 	@echo 'make try        the last part of the gate alone: the program over small projects, full disks, damaged stores'
 	@echo 'make examples   compares what README and USING show at a terminal with what the program prints'
-	@echo 'make shell      runs shell commands under tup_sh, builds examples/c, runs hostile commands and several at a time, clangd and distcc (passed over where there is no strace)'
+	@echo 'make shell      runs shell commands under tup_sh, tries what they saw, builds examples/c, runs hostile commands and several at a time, clangd and distcc (passed over where there is no strace)'
+	@echo 'make lot        draws projects of shell commands by lot, edits them and compares each output with that of the plain shell; SEED=2 draws others, EDITS=3000 more; as root with mounts (some minutes)'
+	@echo 'make containers  runs shell commands where a container lets them: root of a user namespace, without rights, over an overlay, behind filters; DEBIAN=FOLDER in a root of its own'
+	@echo 'make stamps     tries which files are read, and edits files by lot whose digests are kept'
 	@echo 'make real       builds and edits Lua, zlib, brotli and ninja, fetched from Debian, and compares with clean builds and with ninja (passed over without a network)'
 	@echo 'make killed     fails and kills each system call of an update in turn, stops updates by lot and on a full disk, refuses them memory (fifteen minutes)'
 	@echo 'make model      compares the programs with a second reading of the language, in Python, over rows and projects drawn by lot'
@@ -62,7 +66,7 @@ $(SH) $(SHIM): $(TEXTS)
 	cd $(patsubst %/out/,%,$(dir $@)) && rt all check --jobs $(JOBS)
 	cd $(patsubst %/out/,%,$(dir $@)) && rt run | grep '^usage'
 
-$(ROWS): $(TEXTS)
+$(ROWS) $(OUTSIDE): $(TEXTS)
 	cd $(patsubst %/out/,%,$(dir $@)) && rt all check --jobs $(JOBS) && rt run
 
 check:
@@ -113,9 +117,13 @@ examples: build
 
 shell: build runners
 	sh tests/shell.sh $(SH)
+	sh tests/saw.sh $(TUP) $(SH)
 	sh tests/c-example.sh $(TUP) $(SH)
 	sh tests/tools.sh $(TUP) $(SH)
 	sh tests/parallel.sh $(TUP) $(SH)
+
+containers: build runners
+	sh tests/containers.sh $(TUP) $(SH) $(DEBIAN)
 
 # The sources stay in REAL, so that a second call fetches nothing.
 REAL ?= $(or $(TMPDIR),/tmp)/tup-real
@@ -135,6 +143,15 @@ killed: build
 	python3 -B tests/stops.py killed $(TUP) $(SEED) $(STOPS)
 	python3 -B tests/stops.py full $(TUP) $(SEED) $(STOPS)
 	sh tests/killed.sh $(TUP)
+
+# SEED=2 draws others, EDITS=1000 so many edits.
+EDITS ?= 300
+lot: build runners
+	python3 -B tests/lot.py $(TUP) $(SH) $(SEED) $(EDITS)
+
+stamps: build $(OUTSIDE)
+	sh tests/stamps.sh $(TUP)
+	python3 -B tests/stamps.py $(OUTSIDE) $(SEED)
 
 # SEED=2 draws others, COUNT=10 ten times as many.
 model: build runners $(ROWS)

@@ -41,22 +41,25 @@ next_update() { "$tup" | tail -1 | sed 's/[01] read, [01] run/.. read, .. run/';
 done_then='done: .. read, .. run, 0 removed'
 
 # An update once more, in which one call is refused for want of memory: it ends with 7 and the reason; what only reads may
-# end with 12, as the system then changed nothing, and what prints with 9. Without a lock it goes on, and closing a file that
-# was read or synced is nothing.
+# end with 12, as the system then changed nothing, and what prints with 9. Closing a file that was read or synced is nothing, and
+# where a call of what is known of unchanged files fails, all files are read.
 once_more() {
     project "$copy"
     "$tup" > /dev/null
     printf 'ho\n' > a
 }
 once_more
-strace -o "$work/trace" "$tup" -j 1 > /dev/null
-awk '{ name = $0; sub(/\(.*/, "", name); count[name]++ } /"\.["\/]/ { begun = 1 } begun && name ~ /^[a-z]/ && name !~ /^mmap|^exit/ { print name, count[name] }' "$work/trace" > "$work/list"
-while read -r call number; do
+strace -y -o "$work/trace" "$tup" -j 1 > /dev/null
+awk '{ name = $0; sub(/\(.*/, "", name); count[name]++ } /"\.["\/]/ { begun = 1 }
+    begun && name ~ /^[a-z]/ && name !~ /^mmap|^exit/ {
+        print name, count[name], /\/proc\/|^getcwd|\/\.tup\/stamps|"\.", AT_STATX_SYNC_AS_STAT, / ? "stamps" : "needed"
+    }' "$work/trace" > "$work/list"
+while read -r call number use; do
     what="$call number $number without memory"
     once_more
     strace -o /dev/null -e trace="$call" -e inject="$call:error=ENOMEM:when=$number" "$tup" -j 1 > "$work/told" 2> "$work/said"
-    case "$call $? $(tail -1 "$work/said")" in
-        'close 0 ' | 'flock 0 ' | *' 7 tup: '*'(os error 12)' | 'write 9 ' | 'read 12 ' | 'openat 12 ') ;;
+    case "$call $? $(tail -1 "$work/said")$use" in
+        'close 0 '* | *' 0 stamps' | *' 7 tup: '*'(os error 12)'* | 'write 9 '* | 'read 12 '* | 'openat 12 '*) ;;
         *) same "$what" "$? $(tail -1 "$work/told") $(tail -1 "$work/said")" "7 and the reason" ;;
     esac
     same "$what, the source" "$(cat a)" ho
@@ -116,16 +119,16 @@ project "$copy"
 "$tup" > /dev/null
 touch -d @9 a b Tupfile
 strace -o "$work/trace" "$tup" -j 1 > "$work/told"
-same "nothing is to be done" "$(cat "$work/told") $(stat -c %Y b) $(calls_of "$changes")" 'done: 0 read, 0 run, 0 removed 9 unlink 1 rename 0 pwrite64 0 write 1 fdatasync 0 fsync 3 '
+same "nothing is to be done" "$(cat "$work/told") $(stat -c %Y b) $(calls_of "$changes")" 'done: 0 read, 0 run, 0 removed 9 unlink 0 rename 0 pwrite64 0 write 1 fdatasync 0 fsync 3 '
 echo ': a |> cat a > b |> b' > Tupfile
 strace -o "$work/trace" "$tup" -j 1 > "$work/told"
-same "an output that has its content" "$(tail -1 "$work/told") $(stat -c %Y b) $(calls_of "$changes")" 'done: 1 read, 1 run, 0 removed 9 unlink 1 rename 0 pwrite64 8 write 1 fdatasync 8 fsync 5 '
+same "an output that has its content" "$(tail -1 "$work/told") $(stat -c %Y b) $(calls_of "$changes")" 'done: 1 read, 1 run, 0 removed 9 unlink 0 rename 0 pwrite64 8 write 1 fdatasync 8 fsync 5 '
 printf 'ho\n' > a
 strace -o "$work/trace" "$tup" -j 1 > /dev/null
-same "an output that is made anew" "$(cat b) $(calls_of "$changes")" 'ho unlink 2 rename 0 pwrite64 6 write 2 fdatasync 6 fsync 5 '
+same "an output that is made anew" "$(cat b) $(calls_of "$changes")" 'ho unlink 1 rename 0 pwrite64 6 write 2 fdatasync 6 fsync 5 '
 printf '%s\n' ': b |> cp b c |> c' >> Tupfile
 strace -o "$work/trace" "$tup" -j 1 > /dev/null
-same "a command more" "$(cat c) $(calls_of "$changes")" 'ho unlink 1 rename 0 pwrite64 8 write 2 fdatasync 8 fsync 5 '
+same "a command more" "$(cat c) $(calls_of "$changes")" 'ho unlink 0 rename 0 pwrite64 8 write 2 fdatasync 8 fsync 5 '
 
 # A project without syncs asks the system for none, and is killed like any other.
 folder "$copy"
@@ -232,12 +235,43 @@ same "a second update" "$?: $(cat "$work/told") $(cat "$work/said")" '7: fault: 
 same "it looks at nothing" "$(grep -c '"\./' "$work/trace")" 0
 same "it makes nothing" "$(ls -A | tr '\n' ' ')" '.tup Tupfile a '
 
+# An error of the lock is its own cause, unless the file system knows no locks.
+project "$copy"
+strace -o /dev/null -e trace=flock -e inject=flock:error=ENOLCK "$tup" > "$work/told" 2> "$work/said"
+same "a lock that fails" "$?: $(cat "$work/told") $(cat "$work/said")" '7: fault: the file tree or the store failed tup: lock .: No locks available (os error 37)'
+strace -o /dev/null -e trace=flock -e inject=flock:error=EOPNOTSUPP "$tup" > "$work/told" 2> "$work/said"
+same "no locks" "$?: $(tail -1 "$work/told") $(cat "$work/said")" '0: done: 1 read, 1 run, 0 removed '
+
+# A file system that may only be read: what needs no write works.
+if unshare -m true 2> /dev/null; then
+    project "$copy" && "$tup" > /dev/null
+    unshare -m sh -c 'mount --bind . . && mount -o remount,bind,ro . && cd "$PWD" && { touch x; "$1"; "$1" todo; "$1" verify; }' sh "$tup" > "$work/told" 2> "$work/said"
+    same "a file system that may only be read" "$? $(tr '\n' ';' < "$work/told") $(grep -vc 'Read-only' "$work/said")" '0 done: 0 read, 0 run, 0 removed;done: 0 read, 0 run, 0 removed;same; 0'
+    printf 'ho\n' > a
+    unshare -m sh -c 'mount --bind . . && mount -o remount,bind,ro . && cd "$PWD" && "$1"' sh "$tup" > "$work/told" 2> "$work/said"
+    same "something to do there" "$? $(cat "$work/told"): $(cat "$work/said")" '7 fault: the file tree or the store failed: tup: open ./.tup/db: Read-only file system (os error 30)'
+else
+    echo "passed over: a file system that may only be read"
+fi
+
+# What a command prints goes where standard error is closed too, with one runner as with several.
+printf '%s\n' '#!/bin/sh' 'echo one && echo two >&2 && echo good > "$3/w0" && printf "W 0 b\nE 0\n" > "$3/log"' > "$work/prints"
+chmod +x "$work/prints"
+for jobs in 1 4; do
+    project "$copy"
+    "$tup" --proc "$work/prints" -j $jobs > "$work/told" 2>&-
+    same "standard error is closed, -j $jobs" "$? $(tail -1 "$work/told") $(cat b)" '0 done: 1 read, 1 run, 0 removed good'
+    project "$copy"
+    "$tup" --proc "$work/prints" -j $jobs >&- 2> "$work/said"
+    same "standard output is closed, -j $jobs" "$? $(tr '\n' ';' < "$work/said") $(cat b)" '9 one;two; good'
+done
+
 # Closed streams, and few open files.
 project "$copy"
 "$tup" <&- >&- 2>&-
 same "no stream is open" "$?" 9
 same "no stream is open, what was made" "$(cat b)" hi
-same "no stream is open, what else stands there" "$(ls -A . .tup | tr '\n' ' ')" '.: .tup Tupfile a b  .tup: db '
+same "no stream is open, what else stands there" "$(ls -A . .tup | tr '\n' ' ')" '.: .tup Tupfile a b  .tup: .gitignore db '
 same "no stream is open, the next update" "$("$tup" | tail -1)" 'done: 0 read, 0 run, 0 removed'
 for files in 4 5 6; do
     project "$copy"
@@ -259,7 +293,7 @@ project "$copy"
 head -c 100000 /dev/zero > a
 (ulimit -c 0; ulimit -f 8; "$tup") > "$work/told" 2>&1
 same "a file that the shell doesn't allow" "$?" 153
-same "the next update" "$("$tup" | tail -1) $(ls -A . .tup | tr '\n' ' ')" 'done: 0 read, 1 run, 0 removed .: .tup Tupfile a b  .tup: db '
+same "the next update" "$("$tup" | tail -1) $(ls -A . .tup | tr '\n' ' ')" 'done: 0 read, 1 run, 0 removed .: .tup Tupfile a b  .tup: .gitignore db '
 same "what it makes" "$(cmp a b && wc -c < a)" 100000
 
 if [ "$failures" -gt 0 ]; then

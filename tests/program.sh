@@ -48,7 +48,13 @@ row() {
     found=$("$tup" "$@" 2> "$work/said"; printf 'exit %s' "$?")
     same "$name" "$(printf '%s' "$found" | tr '\n' ';')" "${lines}exit $status"
     case "$status $lines" in
-        7* | 8* | '2 ' | *': status 127;') ;;
+        7* | 8* | '2 ' | *': status 127;' | '0 options:'*) ;;
+        '2 fault: usage,'*) same "$name, standard error" "$(sed 's/^tup: .*/tup: what was wrong/' "$work/said")" 'tup: what was wrong' ;;
+        # The files that are too large.
+        *'fault: limit FileSize,'*) same "$name, standard error" "$(sed 's/^tup: .* has [0-9]* bytes, and a file has [0-9]* at most$/a file/' "$work/said")" 'a file' ;;
+        # The file and the line, as editors read them, and what is wrong there.
+        '5 '*fault:*:[0-9]*:*) place=${lines##*fault: }; place=$(printf '%s' "$place" | grep -o '^[^:]*:[0-9]*:')
+            same "$name, standard error" "$(cut -d: -f1,2 "$work/said" | sed 's/$/:/' | head -1)" "$place" ;;
         *'no tup project here;') said '`tup init` begins a project here' ;;
         *'damaged at byte 0;') said_of_store ;;
         *) same "$name, standard error" "$(cat "$work/said")" "" ;;
@@ -81,7 +87,7 @@ row "nor is there anything to compare" 3 'fault: no tup project here;' verify
 same "nothing was made" "$(ls -A | tr '\n' ' ')" 'Tupfile a '
 row "a project begins" 0 'initialized;' init
 same "its store" "$(od -An -v -tx1 -w18 .tup/db)" ' 74 75 70 2d 64 62 32 01 00 00 00 00 00 00 00 00 00 00'
-same "nothing else was made" "$(ls -A . .tup | tr '\n' ' ')" '.: .tup Tupfile a  .tup: db '
+same "nothing else was made" "$(ls -A . .tup | tr '\n' ' ')" '.: .tup Tupfile a  .tup: .gitignore db '
 row "it begins once" 3 'fault: already a tup project;' init
 row "its first update" 0 "$done_copy" upd
 row "it has begun" 3 'fault: already a tup project;' init
@@ -98,7 +104,13 @@ row "--no-sync behind another order" 2 'fault: usage, word 2;' upd --no-sync
 same "nothing was made" "$(ls -A | tr '\n' ' ')" 'Tupfile a '
 row "a project without syncs" 0 'initialized;' init --no-sync
 file "its options" .tup/options --no-sync
-row "it begins once" 3 'fault: already a tup project;' init --no-sync
+row "it begins once" 3 'fault: already a tup project;' init
+row "it may have other options" 0 'options: --no-sync -k;' init --no-sync -k
+said 'the options of .tup/options were: --no-sync'
+row "the same once more" 0 'options: --no-sync -k;' init --no-sync -k
+same "nothing is said of them" "$(cat "$work/said")" ""
+file "they are written" .tup/options "$(printf -- '--no-sync\n-k')"
+row "as they were" 0 'options: --no-sync;' init --no-sync
 row "its first update" 0 "$done_copy" upd
 row "it is compared" 0 'same;' verify
 echo --fast >> .tup/options
@@ -138,21 +150,52 @@ row "another" 2 'fault: usage, word 2;' upd -j17
 row "no word where one has to be" 2 'fault: usage, word 3;' upd -j
 row "the number twice in a call" 2 'fault: usage, word 3;' -j 2 -j 2
 row "a list of what is to be done takes none" 2 'fault: usage, word 2;' todo -j 2
-row "a number for a project that has begun" 3 'fault: already a tup project;' init -j 2
+row "a number for a project that has begun" 0 'options: -j 2;' init -j 2
+# What stands in the place of a file of the program's own is looked at before it is opened, and no link is followed.
+failed='fault: the file tree or the store failed;'
+in_the_way() {
+    for words in upd todo verify 'init -k'; do
+        found=$(timeout 20 "$tup" $words 2> "$work/said"; printf 'exit %s' "$?")
+        same "$1, $words" "$(printf '%s' "$found" | tr '\n' ';') $(cat "$work/said")" "${failed}exit 7 tup: look at $2: a link or a special file stands here"
+    done
+}
 rm .tup/options && mkdir .tup/options
-row "a folder in the place of the options" 7 'fault: the file tree or the store failed;' upd
-said 'read .tup/options: Is a directory (os error 21)'
-rmdir .tup/options && : > .tup/options
+in_the_way "a folder in the place of the options" .tup/options
+rmdir .tup/options && mkfifo .tup/options
+in_the_way "a pipe in the place of the options" .tup/options
+rm .tup/options && echo --no-sync > options && ln -s ../options .tup/options
+in_the_way "a link in the place of the options" .tup/options
+file "what it leads to" options --no-sync
+rm .tup/options && : > .tup/options
 row "no options" 0 "$nothing" upd
+mv .tup/options options && mkfifo .tup/options.new && ln -s ../a .tup/db.new
+row "new options behind a pipe" 0 'options: -k;' init -k
+row "a link in the place of a new store" 0 "$nothing" upd
+same "both are gone, and what the link led to isn't" "$(ls .tup) $(cat a)" "$(printf 'db\noptions') hi"
 project "$copy"
-row "a project that has begun with syncs" 3 'fault: already a tup project;' init --no-sync
-same "it has them still" "$(ls .tup)" db
+row "a project that has begun with syncs" 0 'options: --no-sync;' init --no-sync
+same "it has none now" "$(ls .tup | tr '\n' ' ')" 'db options '
 folder "$copy"
 mkdir -p .tup/options
-row "options that can't be written" 7 'initialized;fault: the file tree or the store failed;' init --no-sync
-said 'write .tup/options: Is a directory (os error 21)'
+row "options that can't be written" 7 "$failed" init --no-sync
+said 'look at .tup/options: a link or a special file stands here'
+same "no project has begun" "$(ls .tup)" options
 rmdir .tup/options
-row "the project has begun, with syncs" 0 "$done_copy" upd
+row "it begins, with syncs" 0 'initialized;' init
+row "its first update" 0 "$done_copy" upd
+# The options are there before the store: so none are lost where the words can't be printed, or the program is killed.
+folder "$copy"
+"$tup" init -k > /dev/full 2>&1
+same "a beginning whose line can't be printed" "$? $(cat .tup/options)" '9 -k'
+row "it has begun" 3 'fault: already a tup project;' init
+folder "$copy"
+strace -o /dev/null -e trace=rename -e inject=rename:signal=KILL:when=2 "$tup" init -k > /dev/null 2>&1
+same "a beginning that is killed" "$? $(cat .tup/options)" '137 -k'
+rm -rf .tup/db
+row "it begins" 0 'initialized;' init
+file "with its options" .tup/options -k
+strace -o /dev/null -e trace=rename -e inject=rename:error=EIO "$tup" init --no-sync > /dev/null 2>&1
+same "options that can't come to their place" "$? $(cat .tup/options)" '7 -k'
 
 project "$copy"
 row "one rule" 0 "$done_copy" upd
@@ -558,8 +601,47 @@ row "a program that leaves no log" 8 'fault: the runner failed;' upd --proc true
 said "true: the program's log is bad"
 file "what was made before stands" b hi
 rm -r .tup/stage && echo mine > .tup/stage
-row "no place for its files" 8 'fault: the runner failed;' --proc true
-said "true: the stage couldn't be made or read"
+no_stage='look at ./.tup/stage: a folder has to stand here, and no link to one'
+row "no place for its files" 7 'fault: the file tree or the store failed;' --proc true
+said "$no_stage"
+file "what stands there stays" .tup/stage mine
+# Nothing is removed through a link, or from a file system that is mounted there.
+mkdir "$work/victim" && echo precious > "$work/victim/keep"
+kept_victim() { same "$name, what it leads to" "$(cd "$work/victim" && ls -A | tr '\n' ' ')$(cat "$work/victim/keep")" 'keep precious'; }
+rm .tup/stage && ln -s "$work/victim" .tup/stage
+row "a link to a folder in its place" 7 'fault: the file tree or the store failed;' --proc true
+said "$no_stage"
+kept_victim
+rm .tup/stage && mkfifo .tup/stage
+row "a pipe in its place" 7 'fault: the file tree or the store failed;' --proc true
+said "$no_stage"
+rm .tup/stage && mkdir -p .tup/stage/old/up && ln -s "$work/victim" .tup/stage/link && ln -s "$work/victim" .tup/stage/old/up/link
+ln -s "$work/victim/keep" .tup/stage/file && mkfifo .tup/stage/pipe && echo x > .tup/stage/x
+row "links, a pipe and a file among older stages" 8 'fault: the runner failed;' --proc true
+said "true: the program's log is bad"
+kept_victim
+gone "they went" .tup/stage/old
+gone "and the links" .tup/stage/link
+if [ "$(id -u)" = 0 ] && mount --bind "$work/victim" .tup/stage 2> /dev/null; then
+    no_stage='look at ./.tup/stage: a file system is mounted here or below: tup would remove what is in it'
+    row "a folder that is mounted in its place" 7 'fault: the file tree or the store failed;' --proc true
+    said "$no_stage"
+    umount .tup/stage && mkdir '.tup/stage/a b' && mount --bind "$work/victim" '.tup/stage/a b'
+    row "one that is mounted in it" 7 'fault: the file tree or the store failed;' --proc true
+    said "$no_stage"
+    umount '.tup/stage/a b'
+    kept_victim
+    chown 65534 .tup/stage
+    row "another user's folder in its place" 7 'fault: the file tree or the store failed;' --proc true
+    said 'look at ./.tup/stage: it belongs to another user'
+    chown 0 .tup/stage
+else
+    echo "passed over: what is mounted where stages are"
+fi
+# A program that says itself why it leaves no log.
+printf '#!/bin/sh\necho why >&2\n: > "$3/said"\n' > "$work/says" && chmod +x "$work/says"
+row "a program that says why it leaves no log" 8 'fault: the runner failed;' --proc "$work/says"
+same "$name, standard error" "$(cat "$work/said")" why
 row "an option without its word" 2 'fault: usage, word 3;' upd --proc
 row "an option twice" 2 'fault: usage, word 4;' upd --proc true --proc true
 # A program that leaves a log of its own: a script of these lines, in the stage.
@@ -606,7 +688,7 @@ row "an end alone" 1 "read .;bad .: cp a b;fault: .: cp a b: doesn't write b;" u
 logging 'echo x > w0' "printf 'W 0 b\nW 0 c\nE 0\n' > log"
 row "a write more" 1 'read .;bad .: cp a b;fault: .: cp a b: writes c;' upd --proc "$work/logs"
 logging 'head -c 16777217 /dev/zero > w0' "printf 'W 0 b\nE 0\n' > log"
-row "a write of more than can be read" 0 "$done_copy" upd --proc "$work/logs"
+row "a write of more than a built-in command writes" 0 "$done_copy" upd --proc "$work/logs"
 same "all of it" "$(wc -c < b)" 16777217
 logging 'rm -rf ../../../.tup'
 row "what tup keeps goes in the middle" 8 'read .;fault: the runner failed;' upd --proc "$work/logs"
@@ -678,7 +760,7 @@ same "a full log" "$(printf '%s' "$found" | tr '\n' ';')" 'run .: cp a b;fault: 
 file "the update is done, too" b hu
 echo 'b: a' > Tupfile
 same "a log, and a fault of the Tupfiles" "$(logged --log)" 'fault: Tupfile:1: unknown line, read for .;exit 5'
-same "nothing was logged" "$(cat "$work/said")" ""
+same "nothing was logged but the fault" "$(cat "$work/said")" 'Tupfile:1: it is neither a rule, nor does it set, define or ask anything: b: a'
 
 project "$copy"
 "$tup" upd >&-
@@ -738,7 +820,7 @@ gone "nothing was made" b
 folder "$copy"
 echo mine > .tup
 row "a file named .tup" 7 'fault: the file tree or the store failed;' upd
-said 'look at ./.tup: a link or a special file stands here'
+said 'look at .tup: a link or a special file stands here'
 file "it stays" .tup mine
 folder "$copy"
 mkdir -p .tup/db
@@ -768,7 +850,7 @@ gone "nothing was made" b
 folder "$copy"
 mkdir gone && cd gone && rmdir ../gone
 row "a folder that was removed" 7 'fault: the file tree or the store failed;' init
-said 'make ./.tup: No such file or directory (os error 2)'
+said 'make .tup: No such file or directory (os error 2)'
 
 # What a hurried user does wrong.
 line() {
@@ -884,20 +966,22 @@ row "an empty store" 3 'fault: no tup project here;' upd
 row "a project begins there" 0 'initialized;' init
 row "what was made is a source" 5 'fault: Tupfile:1: output is a source file, read for .;' upd
 file "it stays" b hi
-for word in -h Upd '' --help=all; do row "the word '$word'" 2 'fault: usage, word 1;' "$word"; done
+for word in Upd '' --help=all; do row "the word '$word'" 2 'fault: usage, word 1;' "$word"; done
 row "two orders" 2 'fault: usage, word 2;' upd demo
 row "an option that isn't known" 2 'fault: usage, word 1;' -x
 row "a word behind --version" 2 'fault: usage, word 1;' --version upd
 
 project ': big |> cp big b |> b'
+truncate -s 1073741825 big
+row "a file that is too large" 11 'fault: limit FileSize, 1073741824;' upd
 truncate -s 16777217 big
-row "a file that is too large" 11 'fault: limit FileSize, 16777216;' upd
+row "one that is more than a built-in command writes" 1 'read .;bad .: cp big b;fault: .: cp big b: status 5;' upd
 project
-truncate -s 16777217 Tupfile
-row "a Tupfile that is too large" 11 'fault: limit FileSize, 16777216;' upd
+truncate -s 1073741825 Tupfile
+row "a Tupfile that is too large" 11 'fault: limit FileSize, 1073741824;' upd
 project "$copy"
-truncate -s 16777217 big
-row "a large file that nobody asks for" 11 'fault: limit FileSize, 16777216;' upd
+truncate -s 1073741825 big
+row "a large file that nobody asks for" 11 'fault: limit FileSize, 1073741824;' upd
 
 rules=$(awk 'BEGIN { p = "a"; for (i = 1; i <= 200; i++) { printf ": %s |> cp %s f%d |> f%d\n", p, p, i, i; p = "f" i } }')
 project "$rules"
@@ -931,8 +1015,8 @@ if [ "$(id -u)" = 0 ] && mkdir "$work/small" && mount -t tmpfs -o size=64k none 
     row "room was made" 0 'run .: cp b c;done: 0 read, 1 run, 0 removed;' upd
     same "room was made, the last file" "$(wc -c < c)" 24576
     mount -o remount,ro "$work/small"
-    row "a disk that may only be read" 7 'fault: the file tree or the store failed;' upd
-    said 'remove ./.tup/db.new: Read-only file system (os error 30)'
+    row "a disk that may only be read, and nothing to do" 0 "$nothing" upd
+    row "a list of what is to be done there" 0 "$nothing" todo
     same "what was made stands" "$(wc -c < c)" 24576
     folder "$copy"
     umount "$work/small"
@@ -965,7 +1049,7 @@ if [ "$(id -u)" = 0 ] && command -v setpriv > /dev/null; then
     folder "$copy"
     chmod 755 .
     nobody "a folder without permission" 'fault: the file tree or the store failed;' init
-    said 'make ./.tup: Permission denied (os error 13)'
+    said 'make .tup: Permission denied (os error 13)'
     file "its source" a hi
     open_project
     chmod 600 a

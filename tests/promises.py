@@ -17,7 +17,7 @@ TOP = os.path.dirname(os.path.dirname(os.path.abspath(__file__)))
 FUNCTION = re.compile(r'^( *)(pub )?(?:const )?fn (\w+)')
 BLOCK = re.compile(r'^(?:pub )?(?:impl|trait)\b(.*)$')
 CLAUSE = re.compile(r'^ *ensures(?: (\w+))? *\{')
-DEFINITION = re.compile(r'^ *(?:pub )?(?:abbrev|record|data|unfoldable|opaque) (?:pub )?([^\s:({]+)')
+DEFINITION = re.compile(r'^ *(?:pub )?(?:abbrev|record|data|unfoldable|opaque) (?:pub )?([^\s:({]+)(?=[\s:(]|$)(?! \{(?: *\w+ =|$))')
 
 
 def read(*parts):

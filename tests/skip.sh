@@ -320,13 +320,13 @@ row "a group that nobody gives to" 5 'fault: no rule gives to <none>;' upd
 rules "$copy"
 done_row "their repair" "$first" "$one"
 
-# More files than may be.
+# More files than a site in memory may have.
 project "$copy"
 done_row "one rule" "$first" "$one"
 mkdir many && (cd many && seq 65533 | xargs touch)
 needless "65,536 files"
 touch k
-row "65,537 files" 11 'fault: limit Files, 65536;' upd
+row "65,537 files" 0 'done: 0 read, 0 run, 0 removed;' upd
 rm -r many
 row "without them" 0 'done: 0 read, 0 run, 0 removed;' upd
 row "a store of which little is needed" 0 'done: 0 read, 0 run, 0 removed;' upd

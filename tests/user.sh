@@ -132,8 +132,8 @@ cd deep || exit 1
 row "two folders below" 0 'run .: cp a b;done: 0 read, 1 run, 0 removed;' ''
 row "it is compared" 0 'same;' '' verify
 row "what would be done" 0 'done: 0 read, 0 run, 0 removed;' '' todo
-row "a word that is none" 2 'fault: usage, word 2;' '' upd now
-row "an option that is none" 2 'fault: usage, word 1;' '' --fast
+row "a word that is none" 2 'fault: usage, word 2;' 'tup: only options may follow there: now;' upd now
+row "an option that is none" 2 'fault: usage, word 1;' 'tup: no such option of an update: --fast: `tup --help` lists what there is;' --fast
 row "the version" 0 "tup $version;" '' --version
 for there in '.hidden/with blank' 'with blank' .tup; do
     cd "$top/$there" || exit 1
@@ -143,7 +143,7 @@ ln -s "$top/sub" "$work/link" && cd "$work/link" || exit 1
 row "in a folder that was reached by a link" 0 'done: 0 read, 0 run, 0 removed;' ''
 cd "$top/sub" || exit 1
 echo 'b: a' > Tupfile
-row "a Tupfile that is wrong" 5 'fault: sub/Tupfile:1: unknown line, read for sub;' ''
+row "a Tupfile that is wrong" 5 'fault: sub/Tupfile:1: unknown line, read for sub;' '../sub/Tupfile:1: it is neither a rule, nor does it set, define or ask anything: b: a;'
 rm Tupfile && ln -s ../Tupfile Tupfile
 row "a link named Tupfile" 7 "$failed" 'tup: look at ../sub/Tupfile: a link or a special file stands here;'
 rm Tupfile
@@ -151,7 +151,7 @@ rm ../.tup/db && mkdir ../.tup/db
 row "a folder at the store" 7 "$failed" 'tup: look at ../.tup/db: a link or a special file stands here;'
 rmdir ../.tup/db
 row "a project without its store" 3 "$none" 'tup: ../.tup has no store: `tup init` begins a project there;'
-rmdir ../.tup && echo mine > ../.tup
+rm -r ../.tup && echo mine > ../.tup
 row "a file named .tup above" 7 "$failed" 'tup: look at ../.tup: a link or a special file stands here;'
 rm ../.tup && ln -s "$work/1/.tup" ../.tup
 row "a link named .tup above" 7 "$failed" 'tup: look at ../.tup: a link or a special file stands here;'
@@ -197,24 +197,29 @@ rm b && mkdir sub && cd sub || exit 1
 row "it runs them for a call below the top" 0 'run .: cp a b;done: 0 read, 1 run, 0 removed;' ''
 file "it has run" ../b one
 cd ..
-row "the project has begun" 3 'fault: already a tup project;' '' init --proc "$work/two"
+row "the project has begun" 3 'fault: already a tup project;' '' init
 file "its options are as they were" .tup/options "$(printf '%s\n' --proc "$work/one")"
+row "it is given others" 0 "options: --proc $work/two;" "tup: the options of .tup/options were: --proc $work/one;" init --proc "$work/two"
+file "they are written" .tup/options "$(printf '%s\n' --proc "$work/two")"
+rm b
+row "that program runs the commands" 0 'run .: cp a b;done: 0 read, 1 run, 0 removed;' ''
+file "it has run" b two
 folder "$copy"
 row "all options at once" 0 'initialized;' '' init --no-sync --proc "$work/with blank/three"
 file "they are written" .tup/options "$(printf '%s\n' --no-sync --proc "$work/with blank/three")"
 row "a program with a blank in its path" 0 "$made" ''
 file "it has run" b three
 folder "$copy"
-row "--proc without a program" 2 'fault: usage, word 3;' '' init --proc
-row "a program that looks like an option" 2 'fault: usage, word 3;' '' init --proc --no-sync
-row "a program without a name" 2 'fault: usage, word 3;' '' init --proc ''
-row "a program of two lines" 2 'fault: usage, word 3;' '' init --proc "$(printf 'a\nb')"
-row "two programs" 2 'fault: usage, word 4;' '' init --proc one --proc two
-row "both words for what is shown" 2 'fault: usage, word 3;' '' init --quiet --verbose
-row "an option twice" 2 'fault: usage, word 3;' '' init --no-sync --no-sync
-row "an option that is none" 2 'fault: usage, word 2;' '' init --fast
-row "an option of calls alone" 2 'fault: usage, word 2;' '' init --explain
-row "a word that is none" 2 'fault: usage, word 4;' '' init --proc one now
+row "--proc without a program" 2 'fault: usage, word 3;' 'tup: no program behind --proc;' init --proc
+row "a program that looks like an option" 2 'fault: usage, word 3;' 'tup: no program behind --proc;' init --proc --no-sync
+row "a program without a name" 2 'fault: usage, word 3;' 'tup: no program behind --proc;' init --proc ''
+row "a program of two lines" 2 'fault: usage, word 3;' 'tup: no program behind --proc;' init --proc "$(printf 'a\nb')"
+row "two programs" 2 'fault: usage, word 4;' 'tup: a second --proc;' init --proc one --proc two
+row "both words for what is shown" 2 'fault: usage, word 3;' 'tup: --quiet and --verbose;' init --quiet --verbose
+row "an option twice" 2 'fault: usage, word 3;' 'tup: a second --no-sync;' init --no-sync --no-sync
+row "an option that is none" 2 'fault: usage, word 2;' 'tup: unknown word --fast;' init --fast
+row "an option of calls alone" 2 'fault: usage, word 2;' 'tup: unknown word --explain;' init --explain
+row "a word that is none" 2 'fault: usage, word 4;' 'tup: unknown word now;' init --proc one now
 same "nothing was made" "$(names .)" 'Tupfile a '
 
 # The file of the options: its lines, an exit number, the lines of an update and what standard error says.
@@ -285,14 +290,14 @@ options "-k twice" '-k -k\n' 2 '' 'tup: .tup/options: a second -k;'
 options "bytes that are no text" '\377\n' 2 '' "tup: .tup/options: unknown word that isn't UTF-8;"
 project "$copy"
 mkdir .tup/options
-row "a folder in the place of the options" 7 "$failed" 'tup: read .tup/options: Is a directory (os error 21);'
+row "a folder in the place of the options" 7 "$failed" 'tup: look at .tup/options: a link or a special file stands here;'
 
 # Options for all who check the project out.
 folder "$copy"
 printf -- '--proc\n%s\n' "$work/one" > Tupfile.ini
 row "a project isn't begun for a comparison" 3 "$none" 'tup: `tup` begins the project of ./Tupfile.ini;' verify
 row "nor to list what would be done" 3 "$none" 'tup: `tup` begins the project of ./Tupfile.ini;' todo
-row "nor for a word that is none" 2 'fault: usage, word 1;' '' make
+row "nor for a word that is none" 2 'fault: usage, word 1;' 'tup: no such order: make: `tup --help` lists what there is;' make
 same "nothing was made" "$(names .)" 'Tupfile Tupfile.ini a '
 mkdir -p sub/deep && cd sub/deep || exit 1
 row "a project begins by itself" 0 "initialized;$made" ''
@@ -345,9 +350,9 @@ row "no terminal, and each command is shown" 0 "$ran_both" '[1/2] .: cp a b;[2/2
 row "nothing is run" 0 'done: 0 read, 0 run, 0 removed;' '' --verbose
 two_rules
 row "no terminal, and nothing is shown" 0 "$ran_both" '' --quiet
-row "both words for what is shown" 2 'fault: usage, word 2;' '' --quiet --verbose
-row "a word for what is shown, twice" 2 'fault: usage, word 3;' '' upd --verbose --verbose
-row "they ask for an update alone" 2 'fault: usage, word 2;' '' verify --verbose
+row "both words for what is shown" 2 'fault: usage, word 2;' "tup: --verbose stands there twice, or beside a word that it doesn't go with;" --quiet --verbose
+row "a word for what is shown, twice" 2 'fault: usage, word 3;' "tup: --verbose stands there twice, or beside a word that it doesn't go with;" upd --verbose --verbose
+row "they ask for an update alone" 2 'fault: usage, word 2;' 'tup: no word may follow verify: --verbose;' verify --verbose
 project ': a |> cp a b && fail 3 |> b'
 row "a command that fails" 1 'read .;bad .: cp a b && fail 3;fault: .: cp a b && fail 3: status 3;' \
     '[1/1] .: cp a b && fail 3;.: cp a b && fail 3: status 3;' --verbose
@@ -407,6 +412,25 @@ if script -qec true /dev/null < /dev/null > /dev/null 2>&1; then
     says 0
     screen "a command that prints, of two runners" 0 "$(over '[1/1] .: say 0')$cleared^[?7l[1/1] .: say 0^[?7hR;wordR;$cleared"
     lines 'read .;run .: say 0;done: 1 read, 1 run, 0 removed;'
+    # Where standard output is the terminal too, it gets no line of a command that was good; their number is told.
+    whole_screen() {
+        name=$1 status=$2 wanted=$3
+        shift 3
+        found=$(script -qec "'$tup' $* -j 1" /dev/null < /dev/null; printf 'exit %s' "$?")
+        same "$name" "$(printf '%s' "$found" | tr '\r\033\n' 'R^;' | sed 's/, [0-9]* sR/, N sR/')" "${wanted}exit $status"
+    }
+    two_rules
+    whole_screen "two terminals" 0 "$(over '[1/2] .: cp a b')$(over '[2/2] .: cat a a > c')${cleared}done: 1 read, 2 run, 0 removedR;tup: 2 commands, 0 removed, N sR;" upd
+    whole_screen "two terminals, and nothing is run" 0 "${cleared}done: 0 read, 0 run, 0 removedR;" upd
+    : > Tupfile
+    whole_screen "two terminals, and files are removed" 0 "${cleared}remove bR;remove cR;done: 1 read, 0 run, 2 removedR;tup: 0 commands, 2 removed, N sR;"
+    project ': a |> cp a c |> c' ': c |> fail 3 |> b'
+    whole_screen "two terminals, and a command fails" 1 "$(over '[1/2] .: cp a c')$(over '[2/2] .: fail 3')R;.: fail 3: status 3R;${cleared}bad .: fail 3R;fault: .: fail 3: status 3R;tup: 1 failed, 1 ran, N sR;"
+    two_rules
+    whole_screen "two terminals, and why" 0 "$(over '[1/2] .: cp a b')$(over '[2/2] .: cat a a > c')${cleared}read .R;run .: cp a bR;  because new .: cp a bR;run .: cat a a > cR;  because new .: cat a a > cR;done: 1 read, 2 run, 0 removedR;" --explain
+    two_rules
+    whole_screen "two terminals, and nothing is shown" 0 'read .R;run .: cp a bR;run .: cat a a > cR;done: 1 read, 2 run, 0 removedR;' --quiet
+    jobs=2
     says 3
     screen "one that fails" 1 "$(over '[1/1] .: say 3')$cleared^[?7l[1/1] .: say 3^[?7hR;wordR;.: say 3: status 3R;$cleared"
     says 0
@@ -422,6 +446,107 @@ if script -qec true /dev/null < /dev/null > /dev/null 2>&1; then
 else
     echo "passed over: a terminal"
 fi
+
+# What standard error says of a fault: the file and the line, as editors read them, and what is wrong there. The paths are those from
+# where the user stands.
+folder
+mkdir app lib && printf 'x\n' > app/a.c
+printf '%s\n' ': foreach *.c |> cp %f %o |> %B.o' '' ': a.o ../lib/libx.a ../none |> cat %f > %o |> app' > app/Tupfile
+"$tup" init > /dev/null
+missing='fault: app/Tupfile:3: missing input, read for app;'
+row "inputs that aren't there" 5 "$missing" 'app/Tupfile:3: lib/libx.a: no source, and no rule makes it;app/Tupfile:3: none: no source, and no rule makes it;' upd
+row "what would be done" 5 "$missing" 'app/Tupfile:3: lib/libx.a: no source, and no rule makes it;app/Tupfile:3: none: no source, and no rule makes it;' todo
+row "where files are compared" 5 "$missing" 'app/Tupfile:3: lib/libx.a: no source, and no rule makes it;app/Tupfile:3: none: no source, and no rule makes it;' verify
+cd app || exit 1
+row "they are named from a folder below" 5 "$missing" '../app/Tupfile:3: ../lib/libx.a: no source, and no rule makes it;../app/Tupfile:3: ../none: no source, and no rule makes it;' upd
+cd .. && printf 'x\n' > lib/libx.a
+row "one of them is there" 5 "$missing" 'app/Tupfile:3: none: no source, and no rule makes it;' upd
+printf 'x\n' > none
+row "all are" 0 'read app;run app: cp a.c a.o;run app: cat a.o ../lib/libx.a ../none > app;done: 1 read, 2 run, 0 removed;' '' upd
+printf '%s\n' ': foreach *.c |> cp %f %o |> %B.o' ': a.o none $(NOT)/x |> cat %f > %o |> app' > app/Tupfile
+row "one is missing, and one leads elsewhere" 5 'fault: app/Tupfile:2: missing input, read for app;' 'app/Tupfile:2: app/none: no source, and no rule above makes it;'
+printf '%s\n' ': foreach *.c |> cp %f %o |> %B.o' ': a.o $(NOT)/x |> cat %f > %o |> app' > app/Tupfile
+row "one leads elsewhere" 5 'fault: app/Tupfile:2: missing input, read for app;' 'app/Tupfile:2: missing input: : a.o $(NOT)/x |> cat %f > %o |> app;'
+project ': b |> cp b c |> c' "$copy"
+row "a rule above the one that makes its input" 5 'fault: Tupfile:1: missing input, read for .;' 'Tupfile:1: b: no source, and no rule above makes it;'
+# A folder that was renamed, with what was made in it: each output that stands in the way is named.
+folder
+mkdir lib && touch lib/1.c lib/2.c && echo ': foreach *.c |> cp %f %o |> %B.o' > lib/Tupfile && echo ': lib/1.o |> cp %f %o |> x' > Tupfile
+"$tup" init > /dev/null && "$tup" > /dev/null
+mv lib lib2
+there="it is there, and tup didn't make it: remove it, or keep it and drop the rule;"
+row "a folder was renamed" 5 'fault: Tupfile:1: missing input, read for .;' 'Tupfile:1: lib/1.o: no source, and no rule makes it;'
+sed -i s/lib/lib2/ Tupfile
+row "its outputs stand in the way" 5 'fault: lib2/Tupfile:1: output is a source file, read for lib2;' "lib2/Tupfile:1: lib2/1.o: ${there}lib2/Tupfile:1: lib2/2.o: $there"
+rm lib2/1.o
+row "one is removed" 5 'fault: lib2/Tupfile:1: output is a source file, read for lib2;' "lib2/Tupfile:1: lib2/2.o: $there"
+rm lib2/2.o
+row "all are" 0 'read .;read lib2;run lib2: cp 1.c 1.o;run .: cp lib2/1.o x;run lib2: cp 2.c 2.o;done: 2 read, 3 run, 0 removed;' ''
+mkdir -p d/o && : > d/o/x && echo ': |> echo 1 > o |> o' > d/Tupfile
+row "a folder where an output has to stand" 5 'fault: d/Tupfile:1: output is a directory, read for d;' 'd/Tupfile:1: d/o: a folder stands there;'
+# Faults that are of no file: the line is shown.
+at_line() {
+    printf '%s\n' "$2" > d/Tupfile
+    row "$1" 5 "fault: d/Tupfile:1: $3, read for d;" "d/Tupfile:1: $4;"
+}
+at_line "a rule of make" 'b: a' 'unknown line' 'it is neither a rule, nor does it set, define or ask anything: b: a'
+at_line "a word of tup that this version lacks" 'export PATH' 'unknown line' "this word of tup isn't in this version: export PATH"
+at_line "another" '.gitignore' 'unknown line' "this word of tup isn't in this version: .gitignore"
+at_line "one arrow" ': |> echo 1 > o' 'a rule has two arrows' 'a rule wants two arrows, as in `: in |> command |> out`: : |> echo 1 > o'
+at_line "a percent flag that there isn't" ': |> echo %q > p |> p' 'unknown percent flag' 'there is no such percent flag; a percent sign is written %%: : |> echo %q > p |> p'
+at_line "a fault of the user's own" 'error no compiler' 'error: no compiler' 'error: no compiler'
+at_line "a macro that isn't there" ': |> !cc |>' 'no such macro' 'no macro of this name is defined above: : |> !cc |>'
+at_line "an output elsewhere" ': |> echo 1 > ../o |> ../o' 'output stands elsewhere' "tup may make no file there: : |> echo 1 > ../o |> ../o"
+printf '%s\n' ': |> echo 1 > o1 |> o1' ': |> echo 2 > o1 |> o1' > d/Tupfile
+row "an output of two rules" 5 'fault: d/Tupfile:2: output named twice, read for d;' 'd/Tupfile:2: this rule, or one above, makes this output already: : |> echo 2 > o1 |> o1;'
+printf '\377\n' > d/Tupfile
+row "a Tupfile that is no text" 5 'fault: d/Tupfile:1: not UTF-8, read for d;' 'd/Tupfile:1: not UTF-8;'
+
+# What a project has made is listed, and removed but for what was changed by hand.
+project "$copy" ': a |> cat a a > c |> c'
+mkdir sub && echo ': ../a |> cp ../a x |> x' > sub/Tupfile
+row "nothing was made yet" 0 '' '' outputs
+"$tup" > /dev/null
+row "what was made" 0 'b;c;sub/x;' '' outputs
+cd sub || exit 1
+row "it is named from the top" 0 'b;c;sub/x;' '' outputs
+echo mine > ../c
+left="it isn't as tup wrote it, and is left;"
+row "it is removed" 0 'remove b;remove sub/x;done: 0 read, 0 run, 2 removed;' "tup: ../c: $left" clean
+same "what stands" "$(names . ..)" '.: Tupfile  ..: .tup Tupfile a c sub '
+cd ..
+file "what was changed" c mine
+row "once more" 0 'done: 0 read, 0 run, 0 removed;' "tup: c: $left" clean
+row "all is made anew" 0 'run .: cp a b;run .: cat a a > c;run sub: cp ../a x;done: 0 read, 3 run, 0 removed;' '' upd
+row "a word behind it" 2 'fault: usage, word 2;' 'tup: no word may follow clean: now;' clean now
+row "a word behind the other" 2 'fault: usage, word 2;' 'tup: no word may follow outputs: -k;' outputs -k
+folder
+row "no project to be cleaned" 3 "$none" "$init_here" clean
+row "none to be listed" 3 "$none" "$init_here" outputs
+same "nothing was made" "$(names .)" 'a '
+
+# What it says of a word that can't stand where it does.
+folder
+usage() {
+    words=$1 place=$2 said=$3
+    shift 3
+    row "the words $words" 2 "fault: usage, word $place;" "tup: $said;" "$@"
+}
+usage 'update' 1 'no such order: update: did you mean upd?' update
+usage 'uptade' 1 'no such order: uptade: `tup --help` lists what there is' uptade
+usage 'ibit' 1 'no such order: ibit: did you mean init?' ibit
+usage 'tdoo' 1 'no such order: tdoo: did you mean todo?' tdoo
+usage 'build' 1 'no such order: build: `tup --help` lists what there is' build
+usage '--verbos' 1 'no such option of an update: --verbos: did you mean --verbose?' --verbos
+usage 'upd --keep' 2 'no such option of an update: --keep: `tup --help` lists what there is' upd --keep
+usage 'todo -k' 2 'no word may follow todo: -k' todo -k
+usage 'upd lib' 2 'only options may follow there: lib' upd lib
+usage '-j' 2 'a number from 1 to 16 has to follow -j' -j
+usage '-j 99' 2 'a number from 1 to 16 has to follow -j, and not 99' -j 99
+usage '--proc' 2 'a program has to follow --proc' --proc
+usage '-k -k' 2 '-k stands there twice, or beside a word that it doesn'"'"'t go with' -k -k
+usage 'init --proc' 3 'no program behind --proc' init --proc
+same "-h is --help" "$("$tup" -h)" "$("$tup" --help)"
 
 # A command that is none of the small ones.
 unknown() {
@@ -565,7 +690,7 @@ if [ "$(id -u)" = 0 ] && setpriv --reuid=65534 --regid=65534 --clear-groups true
     file "its program has run" b one
     project "$copy"
     chmod 755 . && mkdir -m 777 sub && chmod 700 .tup
-    as_nobody "a project of another user here" 7 "$failed" 'tup: read .tup/options: Permission denied (os error 13);'
+    as_nobody "a project of another user here" 7 "$failed" 'tup: look at .tup/options: Permission denied (os error 13);'
     folder
     mkdir -p -m 777 closed/sub && chmod 700 closed
     cd closed/sub && as_nobody "a folder above that may not be entered" 3 "$none" "$init_here"

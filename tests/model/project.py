@@ -130,10 +130,11 @@ class Kept:
 
     def scan(self, tree, sources):
         """What changed among the files is noted, with the folders and rules that it touches."""
+        turned = above_all(path for path in self.seen if path not in self.owned) ^ above_all(sources)
         self.seen = dict(tree)
         self.created |= {folder for folder in self.folders(sources) if folder not in self.asked}
         self.created |= {folder for folder in self.asked if self.is_stale(folder, sources)}
-        self.flags = self.above(self.flags | {at for at in self.runs if self.is_touched(at)})
+        self.flags = self.above(self.flags | {at for at in self.runs if self.is_touched(at) or self.asks_in_vain(at, turned)})
 
     def folders(self, sources):
         return sorted(path[:-1] for path in sources if path[-1] == b'Tupfile')
@@ -151,6 +152,11 @@ class Kept:
         asked, wrote = self.runs[at]
         asked = {path: told for path, told in asked if path not in self.rules[at]['outputs']}
         return any(self.seen.get(path) != told for path, told in [*asked.items(), *wrote.items()])
+
+    def asks_in_vain(self, at, paths):
+        """Whether the run of a rule asked for one of these paths and found no file; an output isn't read by its rule."""
+        asked, _ = self.runs[at]
+        return any(path in paths and told is None and path not in self.rules[at]['outputs'] for path, told in asked)
 
     def above(self, roots):
         """These rules, and all that read, over any others, what they make."""
@@ -221,6 +227,11 @@ class Kept:
             else:
                 bad.add(at)
             yield at, verdict
+
+
+def above_all(paths):
+    """The folders in which one of these files lies, at whatever depth."""
+    return {path[:depth] for path in paths for depth in range(len(path))}
 
 
 def is_told_otherwise(project, asked):

@@ -10,8 +10,9 @@ FOLDERS = ['', 'lib', 'src', 'lib/x']
 CONTENTS = [b'', b'int a;\n', b'#include "h.h"\nx\n', b'#include "../h.h"\ny\n', b'1', b'#include "k"\n',
             b'#include "../lib/m.h"\n#include "../h.h"\nz', b'#include "l.o"\n', b'q\n#include "none"\n']
 GLOBS = ['*.o', '*.c', '*.h', 'lib/*.o', '../*.o', '../lib/*.c', 'src/*.o']
+LOOKED_FOR = ['k', 'h.h', '../k', 'none', 'o1', 'l.o', '%o', 'x', '../x', 'lib', '../lib', 'src', '../src']
 OUTPUTS = ['o1', 'o2', 'p.o', 'all', 'x.o', 'g.h', 'log']
-IN_THE_WAY = ['o1/z', 'lib/o2', 'src/all/q', 'x.o']
+IN_THE_WAY = ['o1/z', 'lib/o2', 'src/all/q', 'x.o', 'none/y/z']
 CONFIGS = [b'CONFIG_S=1\n', b'CONFIG_S=two\n', b'# CONFIG_S is not set\n', b'', b'S=1\n']
 SHARED = [b'!m = |> ^ M %f^ cp %f %o |> m.o\n', b'V = $(TUP_CWD)/v\n', b'V = r\n!m = | h.h |> incl %f %o |> %B.m\n']
 COMMANDS = ['cat a.c h.h > %o', 'cp k %o', 'cp o1 %o', 'cat o1 o2 > %o', 'cp UPlib/l.o %o',
@@ -53,7 +54,7 @@ def tupfile_rule(drawn, up):
         (10, up + '<g> |> ^ JOIN %o^ cat %<g> > %o |> ' + out),
         (10, one_of(GLOBS) + ' |> cat %f > %o |> ' + out + gift),
         (8, '|> echo ' + one_of(['@(S)', '$(V)', 'x y', '%o', '%d', '$(TUP_CWD)']) + ' > %o |> ' + out + gift),
-        (6, '|> ifexists %s %s %%o |> %s%s' % (one_of(['k', 'h.h', '../k', 'none', 'o1', 'l.o', '%o']),
+        (6, '|> ifexists %s %s %%o |> %s%s' % (one_of(LOOKED_FOR),
                                               one_of(['a.c', 'h.h', 'k', 'l.c', 'm.c']), out, gift)),
         (5, one_of(['a.c', 'l.c', 'm.c', '*.c']) + ' |> fail ' + one_of(['1', '3', '0', '255']) + ' |> ' + out + gift),
         (6, '|> ' + one_of(COMMANDS).replace('UP', up) + ' |> ' + out + one_of(['', ' | o2'])),

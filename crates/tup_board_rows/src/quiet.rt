@@ -12,7 +12,8 @@ use crate::place::may_stand;
 use std::alloc::{AllocError, Global};
 use tup_path::{Bytes, Path, Paths};
 use tup_rows::set;
-use tup_site::{MemSite, Site, SiteFailed};
+use tup_site::{Limits, MemSite, Site, SiteFailed};
+use tup_stamp::Stamp;
 
 /// A site in memory of which contracts know nothing but how often it failed: they ask nothing of what it holds.
 #[derive(Drop)]
@@ -128,6 +129,8 @@ impl Quiet {
 
 impl Site for Quiet {
     ghost use Rattle.std.specs.Prelude.{[], false};
+    ghost use Rattle.tup_site.specs.Laws.{least_law};
+    ghost use Rattle.tup_site.specs.Limits.{least};
     ghost use Rattle.std.specs.FinMap as finite;
 
     ghost tells = { false };
@@ -141,6 +144,12 @@ impl Site for Quiet {
     ghost left_since = { λ _ _ _. ⊥ };
 
     ghost faults = { λ quiet. quiet.faults };
+
+    ghost limits = { least };
+
+    ghost are_limits = { least_law };
+
+    ghost told_limits = { λ no. Prim.cc };
 
     ghost is_tree = { λ site no. Prim.cc };
 
@@ -159,6 +168,11 @@ impl Site for Quiet {
     fn list(&mut self, alloc: Global) -> Result<Paths, SiteFailed> {
         self.begin()?;
         let answer = self.site.list(alloc);
+        self.told(answer)
+    }
+
+    fn noted(&mut self, alloc: Global, path: &Path) -> Result<Option<Stamp>, SiteFailed> {
+        let answer = self.site.noted(alloc, path);
         self.told(answer)
     }
 
@@ -230,6 +244,10 @@ impl Site for Quiet {
 
     fn faults(&self) -> u64 {
         self.faults
+    }
+
+    fn limits(&self) -> Limits {
+        self.site.limits()
     }
 }
 

@@ -62,4 +62,4 @@ follow-leaves next rules rule tree (suc steps) asked =
 
 pub verdict-leaves : (next : Next) (rules : List Rule) (rule : Rule) (tree : Tree) → LeavesContents rule (verdict next rules rule tree)
 unfolding verdict
-verdict-leaves next rules rule tree = follow-leaves next rules rule tree 4096 []
+verdict-leaves next rules rule tree = follow-leaves next rules rule tree 65536 []

@@ -5,7 +5,7 @@ use std::io::Read;
 use std::{io, str};
 use tup_path::{Bytes, Path};
 use tup_rows::{Answers, RowFault, Words};
-use tup_strace::{Account, Act, Step, acts_of};
+use tup_strace::{Account, Act, Answer, Step, acts_of};
 use tup_trace::{Call, calls};
 
 /// Knows the kept traces, and what their commands ask for and write.
@@ -85,8 +85,8 @@ fn put_paths(alloc: Global, words: &mut Words, front: &[u8], paths: &[Path]) {
 /// The step of an act in the folder.
 fn step_of(alloc: Global, dir: &[u8], act: &Act) -> Option<Step> {
     match act {
-        Act::Ask { place, .. } => Some(Step::Ask(path_of(alloc, dir, place)?)),
-        Act::Run { place } => Some(Step::Ask(path_of(alloc, dir, place)?)),
+        Act::Ask { place, answer, .. } => Some(Step::Ask(path_of(alloc, dir, place)?, *answer)),
+        Act::Run { place } => Some(Step::Ask(path_of(alloc, dir, place)?, Answer::Unclear)),
         Act::Write { place, .. } => Some(Step::Write(path_of(alloc, dir, place)?)),
         Act::Change { place, .. } => Some(Step::Change(path_of(alloc, dir, place)?)),
         Act::Remove { place } => Some(Step::Remove(path_of(alloc, dir, place)?)),

@@ -2,7 +2,7 @@
 use std::alloc::Global;
 use tup_path::Items;
 use tup_rows::{Answers, RowFault, Words};
-use tup_strace::{Act, acts_of};
+use tup_strace::{Act, Answer, acts_of};
 use tup_trace::{Call, Token, calls, unquoted};
 
 /// Knows the calls of tup_trace, and what calls do.
@@ -94,7 +94,14 @@ fn shown_acts(alloc: Global, acts: &[Act]) -> Words {
 
 fn put_act(alloc: Global, words: &mut Words, act: &Act) {
     match act {
-        Act::Ask { place, follows } => put(alloc, words, ask_word(*follows), place.as_slice()),
+        Act::Ask {
+            place,
+            follows,
+            answer,
+        } => {
+            put(alloc, words, ask_word(*follows), place.as_slice());
+            put_answer(alloc, words, *answer);
+        }
         Act::Run { place } => put(alloc, words, b"run", place.as_slice()),
         Act::Write { place, .. } => put(alloc, words, b"write", place.as_slice()),
         Act::Change { place, .. } => put(alloc, words, b"change", place.as_slice()),
@@ -108,6 +115,14 @@ fn put_act(alloc: Global, words: &mut Words, act: &Act) {
 
 fn ask_word(follows: bool) -> &'static [u8] {
     if follows { b"ask" } else { b"look" }
+}
+
+fn put_answer(alloc: Global, words: &mut Words, answer: Answer) {
+    match answer {
+        Answer::Found => words.put(alloc, b"found"),
+        Answer::Missed => words.put(alloc, b"missed"),
+        Answer::Unclear => {}
+    }
 }
 
 fn put(alloc: Global, words: &mut Words, verb: &[u8], place: &[u8]) {

@@ -2,7 +2,7 @@
 use std::alloc::Global;
 use tup_path::{Path, PathFault};
 use tup_rows::{Answers, RowFault, Words};
-use tup_strace::{Account, Step};
+use tup_strace::{Account, Answer, Step};
 
 /// Knows the account of steps.
 #[derive(Drop)]
@@ -27,6 +27,8 @@ fn account(alloc: Global, said: &Words) -> Words {
     put_paths(alloc, &mut words, b"asks", account.asks.as_slice());
     put_paths(alloc, &mut words, b"touched", account.touched.as_slice());
     put_paths(alloc, &mut words, b"own", account.own.as_slice());
+    put_paths(alloc, &mut words, b"found", account.found.as_slice());
+    put_paths(alloc, &mut words, b"missed", account.missed.as_slice());
     words
 }
 
@@ -56,7 +58,9 @@ fn step_of(alloc: Global, text: &str) -> Result<Step, RowFault> {
     let (verb, rest) = parted(text);
     let (one, two) = parted(rest);
     match verb {
-        "ask" => Ok(Step::Ask(path_of(alloc, one)?)),
+        "ask" => Ok(Step::Ask(path_of(alloc, one)?, Answer::Unclear)),
+        "find" => Ok(Step::Ask(path_of(alloc, one)?, Answer::Found)),
+        "miss" => Ok(Step::Ask(path_of(alloc, one)?, Answer::Missed)),
         "write" => Ok(Step::Write(path_of(alloc, one)?)),
         "change" => Ok(Step::Change(path_of(alloc, one)?)),
         "remove" => Ok(Step::Remove(path_of(alloc, one)?)),

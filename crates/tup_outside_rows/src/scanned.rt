@@ -1,17 +1,48 @@
 //! The calls `scan` and `passes`.
+use crate::answers;
 use crate::answers::counted;
 use std::alloc::Global;
 use std::sync::atomic::{AtomicU64, Ordering};
+use tup_path::Path;
 use tup_rows::{RowFault, Words};
 use tup_scan::{Pulse, ScanFault, Seen, Still, scan};
-use tup_site::Site;
-use tup_stamp::hex;
+use tup_site::{Site, SiteFailed};
+use tup_stamp::{Stamp, hex, stamp_of};
 
 /// What a scan of a site sees.
 pub(crate) fn scanned<S: Site>(alloc: Global, site: &mut S) -> Words {
     match scan(alloc, site, &Still) {
         Ok(seen) => shown(alloc, &seen),
         Err(fault) => refused(alloc, fault),
+    }
+}
+
+/// The stamps of all files, as the site knows them, or by what it reads.
+pub(crate) fn stamps<S: Site>(alloc: Global, site: &mut S) -> Words {
+    let paths = match site.list(alloc) {
+        Ok(paths) => paths,
+        Err(failed) => return answers::refused(alloc, failed),
+    };
+    let mut words = Words::new(alloc);
+    for path in paths.as_slice() {
+        words.show(alloc, path);
+        match stamp(alloc, site, path) {
+            Ok(Some(stamp)) => words.put(alloc, &hex(&stamp)),
+            Ok(None) => words.put(alloc, b"none"),
+            Err(_) => words.put(alloc, b"refused"),
+        }
+    }
+    words
+}
+
+/// The stamp of a file, as the site knows it, or by what it reads.
+fn stamp<S: Site>(alloc: Global, site: &mut S, path: &Path) -> Result<Option<Stamp>, SiteFailed> {
+    if let Some(stamp) = site.noted(alloc, path)? {
+        return Ok(Some(stamp));
+    }
+    match site.get(alloc, path)? {
+        Some(content) => Ok(Some(stamp_of(content.as_slice()))),
+        None => Ok(None),
     }
 }
 

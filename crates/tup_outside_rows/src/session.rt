@@ -1,13 +1,15 @@
 //! The calls of `fs.rows`.
 use crate::answers::{ended, got, listed, number, refused};
 use crate::folder::Folder;
-use crate::scanned::{passes, scanned};
+use crate::scanned::{passes, scanned, stamps};
 use std::alloc::{AllocError, Global};
-use std::fs;
+use std::rt::Clock;
+use std::{fs, mem};
 use tup_fs::{FsSite, Syncs};
 use tup_path::Bytes;
 use tup_rows::{Answers, RowFault, Words};
 use tup_site::Site;
+use tup_stamp::hex;
 
 /// A folder, and the site over it.
 #[derive(Drop)]
@@ -23,6 +25,10 @@ impl Answers for Session {
             "again" => self.again(alloc),
             "over" => self.over(alloc, said.str_at(0)),
             "beside" => self.beside(alloc),
+            "keep" => self.keep(alloc, said.number_at(0)),
+            "leave" => self.leave(alloc),
+            "noted" => self.noted(alloc, said),
+            "stamps" => stamps(alloc, &mut self.site),
             "list" => listed(alloc, self.site.list(alloc)),
             "scan" => scanned(alloc, &mut self.site),
             "passes" => passes(alloc, &mut self.site),
@@ -104,6 +110,39 @@ impl Session {
         match self.another(alloc) {
             Ok(mut other) => number(alloc, other.db_len(alloc)),
             Err(_) => Words::none(alloc, RowFault::Memory),
+        }
+    }
+
+    /// Begins another site over the same folder, which keeps the stamps of files that were changed so many seconds ago.
+    fn keep(&mut self, alloc: Global, seconds: u64) -> Words {
+        let Ok(mut site) = self.another(alloc) else {
+            return Words::none(alloc, RowFault::Memory);
+        };
+        let Ok(now) = self.folder.rt.since_1970() else {
+            return Words::none(alloc, RowFault::OtherKind);
+        };
+        site.keep_stamps(now, seconds);
+        self.site = site;
+        Words::done(alloc)
+    }
+
+    /// Has the site write what it keeps, and begins another.
+    fn leave(&mut self, alloc: Global) -> Words {
+        match self.another(alloc) {
+            Ok(site) => {
+                mem::replace(&mut self.site, site).leave();
+                Words::done(alloc)
+            }
+            Err(_) => Words::none(alloc, RowFault::Memory),
+        }
+    }
+
+    /// The stamp of a file, where the site knows it without reading the file.
+    fn noted(&mut self, alloc: Global, said: &Words) -> Words {
+        match self.site.noted(alloc, &said.path_at(alloc, 0)) {
+            Ok(Some(stamp)) => Words::word(alloc, &hex(&stamp)),
+            Ok(None) => Words::word(alloc, b"none"),
+            Err(failed) => refused(alloc, failed),
         }
     }
 
