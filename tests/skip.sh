@@ -32,6 +32,9 @@ same() {
 file() { same "$1" "$(cat "$2" 2>&1)" "$3"; }
 gone() { same "$1" "$(ls "$2" 2>/dev/null)" ""; }
 
+# What the next row's standard error says: of a fault of a Tupfile, the file and the line that it is about.
+says=
+
 # Runs the program with words: the row's name, its exit number, its lines with a semicolon behind each, the words.
 row() {
     name=$1 status=$2 lines=$3
@@ -43,7 +46,8 @@ row() {
     esac
     found=$("$tup" "$@" 2> "$work/said"; printf 'exit %s' "$?")
     same "$name" "$(printf '%s' "$found" | tr '\n' ';')" "${lines}exit $status"
-    same "$name, standard error" "$(cat "$work/said")" ""
+    same "$name, standard error" "$(cat "$work/said")" "$says"
+    says=
 }
 
 # Each file and folder with its place on the disk, its times of change and its length.
@@ -224,7 +228,9 @@ done_row "another setting" 'read x;run x: echo slow > o;' "$one"
 echo CONFIG_OTHER=1 >> tup.config
 needless "a setting that nobody asks for"
 echo MODE=none > tup.config
+says='tup.config:1: bad config line: MODE=none'
 row "a tup.config with a fault" 5 'fault: tup.config:1: bad config line, read for .;' upd
+says='tup.config:1: bad config line: MODE=none'
 row "it has it still" 5 'fault: tup.config:1: bad config line, read for .;' upd
 file "what was made stands" x/o slow
 echo CONFIG_MODE=new > tup.config
@@ -237,6 +243,7 @@ echo 1 > a_text.txt
 echo 2 > b_text.txt
 done_row "rules under a condition" 'read .;run .: cp a_text.txt a.bin;run .: cp b_text.txt b.bin;' 'done: 1 read, 2 run, 0 removed'
 rm tup.config
+says='Tupfile:4: error: no T'
 row "a fault of the user's own" 5 'fault: Tupfile:4: error: no T, read for .;' upd
 same "what was made stands" "$(cat a.bin b.bin | tr '\n' ' ')" '1 2 '
 echo CONFIG_T=y > tup.config
@@ -252,6 +259,7 @@ gone "its output is gone" c
 rules "$copy" ': b |> cp b c |> c'
 done_row "its end is put back" 'read .;run .: cp b c;' "$one"
 rules ': b |> cp b c |> c'
+says='Tupfile:1: b: no source, and no rule above makes it'
 row "its begin goes" 5 'fault: Tupfile:1: missing input, read for .;' upd
 same "what was made stands" "$(cat b c | tr '\n' ' ')" 'hi hi '
 : > Tupfile
