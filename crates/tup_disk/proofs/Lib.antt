@@ -1,3 +1,4 @@
+pub mod Jobs
 pub mod Marked
 pub mod Places
 pub mod Turns

@@ -1,3 +1,5 @@
+pub mod Jobs
 pub mod Marked
 pub mod Place
+pub mod Sum
 pub mod Told

@@ -1,7 +1,7 @@
 -- How an answer of the system is told, and what a refusal says. Own.
 -- No clause of std says when a call of the system fails, or with which error. So a cause here is what was asked and where; which
 -- answers of the system aren't a refusal; and which refusals are the program's own.
-use Rattle.std.specs.Prelude.{◌≡◌, ◌⊎◌, ◌++◌, ◌∷◌, ℕ, List, [], Result, Ok, Err, String, string_bytes, codes}
+use Rattle.std.specs.Prelude.{◌≡◌, ◌⊎◌, ◌++◌, ℕ, List, [], Result, Ok, Err, String, string_bytes, codes}
 use Rattle.std.specs.Global.{Global}
 use Rattle.std.specs.List.{Any}
 use Rattle.std.specs.BTreeSet.{BTreeSet}

@@ -14,11 +14,14 @@ use tup_path::{Path, Text};
 /// What is said where somebody else holds the lock. That is mostly another tup; any program may lock the folder.
 const TAKEN: &str = "another tup is at work here";
 
-/// Whether what was written is made durable. Where it isn't, it is safe against a killed program,
-/// but not against a cut of power.
+/// When what was written is made durable.
 #[derive(Clone, Copy, PartialEq, Eq)]
 pub enum Syncs {
+    /// Whenever a site is asked for it.
     Done,
+    /// Once an update, at its end.
+    Once,
+    /// Never: then it is safe against a killed program, but not against a cut of power.
     Skipped,
 }
 
@@ -50,6 +53,13 @@ impl<R: Files<File = File> + Clone + Drop> Disk<R> {
         ensures { result.now ≡ string_bytes self.now.root }
     {
         self.root.as_str()
+    }
+
+    /// When what was written is made durable.
+    pub fn syncs(&self) -> Syncs
+        ensures { result ≡ self.now.syncs }
+    {
+        self.syncs
     }
 
     /// The place of these names, as the system names it.
@@ -90,6 +100,11 @@ impl<R: Files<File = File> + Clone + Drop> Disk<R> {
                 Err(self.refused(Operation::Lock, root, error))
             }
         }
+    }
+
+    /// Whether a lock keeps other processes away: some file systems know no locks.
+    pub fn is_locked(&self, lock: &File) -> bool {
+        lock.try_lock().is_ok()
     }
 
     /// Opens a file, or a folder, to be read.

@@ -1,5 +1,5 @@
 //! What isn't durable yet.
-ghost use Rattle.std.specs.Prelude.{◌≡◌, ◌⊎◌, false, IfErr, OnOk, OnErr, IsErr, IsTrue, map, string_bytes};
+ghost use Rattle.std.specs.Prelude.{◌≡◌, ◌⊎◌, ◌↔◌, false, IfErr, OnOk, OnErr, IsErr, IsTrue, map, string_bytes};
 ghost use Rattle.std.specs.BTreeSet.{IsEmpty};
 ghost use Rattle.tup_disk.specs.Marked.{IsMarked, AllMarked, StayMarked, places_above};
 ghost use Rattle.tup_disk.specs.Place.{place_of};
@@ -19,8 +19,8 @@ use tup_path::Path;
 /// the folders in which names came or went.
 #[derive(Drop)]
 pub struct Touched {
-    places: BTreeSet<String>,
-    is_lost: bool,
+    pub(crate) places: BTreeSet<String>,
+    pub(crate) is_lost: bool,
 }
 
 impl Touched {
@@ -33,6 +33,13 @@ impl Touched {
             places: BTreeSet::new(alloc),
             is_lost: false,
         }
+    }
+
+    /// Whether a place is marked.
+    pub fn has(&self, place: &String) -> bool
+        ensures { IsTrue result ↔ IsMarked self.now.places (string_bytes place.now) }
+    {
+        self.places.contains(place)
     }
 
     /// Marks the folders above a path, the top among them: also those that a run which died has
