@@ -8,6 +8,7 @@
 #![tactic(auto)]
 
 mod answers;
+mod emptied;
 mod failures;
 mod note_disk;
 mod note_file;

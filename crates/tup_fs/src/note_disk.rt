@@ -65,7 +65,7 @@ pub(crate) fn write<R: Files<File = File> + Clone + Drop>(
 }
 
 /// The place of a file in the program's own folder.
-fn place<R: Files<File = File> + Clone + Drop>(
+pub(crate) fn place<R: Files<File = File> + Clone + Drop>(
     disk: &Disk<R>,
     name: &str,
 ) -> Result<String, AllocError> {

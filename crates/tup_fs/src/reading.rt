@@ -149,8 +149,24 @@ impl Tree {
             Standing::File { len, .. } if len > MAX_DISK_FILE_BYTES => Ok(Found::TooLarge(len)),
             Standing::File { len, .. } => read(disk, disk.open(place)?, place, len),
             Standing::Link => Ok(text_of(disk.target(place)?)),
-            _ => Ok(Found::Nothing),
+            Standing::Other => self.note_strange(disk, place),
+            Standing::Nothing | Standing::Folder => Ok(Found::Nothing),
         }
+    }
+
+    // Notes that a pipe, a socket or a device stands at a place, where none is noted yet: it is no file.
+    fn note_strange<R: Files<File = File> + Clone + Drop>(
+        &mut self,
+        disk: &Disk<R>,
+        place: &str,
+    ) -> Result<Found, Refused>
+        ensures within { IfOk result IsWithin }
+        ensures answers { self.new.answers ≡ self.old.answers }
+    {
+        if self.strange.is_none() {
+            self.strange = Some(String::from_str(disk.alloc, place)?);
+        }
+        Ok(Found::Nothing)
     }
 }
 

@@ -11,6 +11,7 @@ ghost use Rattle.tup_fs.specs.declared.answers.Known.TheVariants.{Absent, Sum};
 ghost use Rattle.tup_site.specs.Cause.{OnlyLarge};
 ghost use Rattle.tup_site.specs.Limits.{IsWithin, OnlyOver, greatest};
 
+use crate::emptied;
 use crate::failures::Failures;
 use crate::notes::{Since, nanos};
 use crate::reading::Found;
@@ -76,6 +77,22 @@ impl<R: Files<File = File> + Clone + Drop> FsSite<R> {
     /// so many seconds before this call of the program began. That was so long after 1970.
     pub fn keep_stamps(&mut self, began: Duration, seconds: u64) {
         self.tree.notes.keep(Since::new(nanos(began), seconds));
+    }
+
+    /// The first place at which a pipe, a socket or a device stood where a file was asked for. It counts as no file.
+    pub fn strange(&self) -> Option<&str> {
+        match &self.tree.strange {
+            Some(place) => Some(place.as_str()),
+            None => None,
+        }
+    }
+
+    /// Removes the folders that removals left empty, also those of calls that were cut off, as far as that can be done. Without the
+    /// lock it does nothing.
+    pub fn take_emptied(&self) {
+        if self.lock.is_some() {
+            drop(emptied::take(&self.disk));
+        }
     }
 
     /// Writes what is noted of the files, and gives back the lock. What is known of them isn't freed piece by piece: this is for a

@@ -156,6 +156,7 @@ impl Tree {
     ) -> Result<(), Refused> {
         let folders = disk.folders_above(path)?;
         self.check_spelling(disk, path, place)?;
+        self.emptied.note(disk, path)?;
         disk.remove(place)?;
         self.remove_empty(disk, &folders);
         Ok(())
