@@ -17,6 +17,7 @@ use crate::writes::{Remarks, Writes, is_open};
 use std::alloc::Global;
 use std::collections::BTreeSet;
 use std::fs::File;
+use std::io::Stderr;
 use std::process::Processes;
 use std::rt::Files;
 use std::{fs, str};
@@ -48,6 +49,8 @@ pub(crate) struct Job<R: Files<File = File> + Processes + Eprint + Clone + Drop>
     pub(crate) rt: R,
     pub(crate) alloc: Global,
     pub(crate) words: Words,
+    /// Where the command prints its errors.
+    pub(crate) stderr: Stderr,
 }
 
 /// A command and what it runs over.
@@ -114,10 +117,11 @@ impl<R: Files<File = File> + Processes + Eprint + Clone + Drop> Job<R> {
 
     /// Runs the command over a project. Where it couldn't be run a program that isn't installed is named.
     fn run_named(&self, tree: &Tree<R>) -> Result<(), Failure> {
-        match self.run_over(tree) {
-            Err(Failure::Because(_)) if names_missing(tree) => Err(Failure::Told),
-            done => done,
+        let done = self.run_over(tree);
+        if has_cause(&done) && names_missing(tree) {
+            return Err(Failure::Told);
         }
+        done
     }
 
     /// Runs the command over a project; once more where a file was changed while it was read, or a call that wasn't traced may
@@ -173,6 +177,7 @@ impl<R: Files<File = File> + Processes + Eprint + Clone + Drop> Job<R> {
                 words: &self.words,
                 ground: &task.ground,
                 way: task.way,
+                stderr: self.stderr,
                 sees_links,
             },
         )?;
@@ -227,8 +232,11 @@ impl<R: Files<File = File> + Processes + Eprint + Clone + Drop> Job<R> {
         Ok(Outcome::Left)
     }
 
-    /// Tells which folder was listed, once an update.
+    /// Tells which folder was listed, once an update that isn't quiet.
     fn tell_listed(&self, task: &Task<R>, calls: &[Call]) -> Result<(), Failure> {
+        if task.update.is_quiet {
+            return Ok(());
+        }
         if let Some(text) = listed(task.tree, calls)? {
             if task.update.is_first(task.tree, "listed")? {
                 tell::listed(&self.rt, &text);
@@ -270,6 +278,15 @@ impl<R: Files<File = File> + Processes + Eprint + Clone + Drop> Job<R> {
         let status = status_with(status, remarks.are_faults());
         log.push(LogLine::End { status })?;
         task.tree.write_log(log.as_slice())
+    }
+}
+
+/// Whether what was done failed for a cause that may be a program that isn't installed.
+fn has_cause(done: &Result<(), Failure>) -> bool {
+    match done {
+        Err(Failure::Because(_)) => true,
+        Err(Failure::Named { .. }) => true,
+        _ => false,
     }
 }
 
@@ -339,6 +356,7 @@ fn resolved<R: Files<File = File> + Clone + Drop>(
         account: &mut account,
         untracked,
         plain: BTreeSet::new(alloc),
+        above: BTreeSet::new(alloc),
         is_sure: true,
     };
     seen.follow_all(alloc, acts)?;

@@ -36,7 +36,18 @@ use tup_child::{Failure, read_words};
 fn main(rt: HostRuntime) -> ExitCode {
     let alloc = rt.alloc();
     let status = match read_words(&rt, alloc) {
-        Some(words) => status(rt, run(&Job { rt, alloc, words })),
+        Some(words) => {
+            let stderr = rt.stderr();
+            status(
+                rt,
+                run(&Job {
+                    rt,
+                    alloc,
+                    words,
+                    stderr,
+                }),
+            )
+        }
         None => checked(rt, alloc),
     };
     ExitCode::from(status)

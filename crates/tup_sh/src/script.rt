@@ -6,8 +6,9 @@ pub(crate) const REMAKE: &str = "\
 for f in up wk; do [ -h $f ] || chmod -R u+rwx $f 2>/dev/null; done\n\
 rm -rf --one-file-system -- ./up ./wk ./trace ./list && mkdir up wk\n";
 
-/// In the namespaces: lays the overlay over the project, writes a line to its standard input, which is the end of a pipe,
-/// once that is done, and starts what follows its own words. These are ROOT DIR, the options of the overlay, the folder of the
+/// In the namespaces: lays the overlay over the project, writes the byte 1 to its standard error, which is the end of a pipe,
+/// once that is done, and starts what follows its own words. Its standard input is the standard error of the command, which has it
+/// from the descriptor 8. These are ROOT DIR, the options of the overlay, the folder of the
 /// stage that holds what it writes, how many other file systems are mounted in the project, the places of these from the top,
 /// how many other places show the project, and for each of them the part of the project and the place. Where the stage holds it and
 /// nothing else is mounted no other shell is started for that.
@@ -16,7 +17,7 @@ rm -rf --one-file-system -- ./up ./wk ./trace ./list && mkdir up wk\n";
 /// another one from many files; the command's own is added as a last word behind a sign, or nothing if it has none, and so is the
 /// folder in which it was before. No other variable is set: it would be the command's.
 pub(crate) const INSIDE: &str = "\
-exec 9>trace || exit 125\n\
+exec 8>&0 </dev/null 9>trace || exit 125\n\
 set -- \"$@\" \"${LC_ALL+=$LC_ALL}\" \"${OLDPWD+=$OLDPWD}\"\n\
 export LC_ALL=C\n\
 lay() (\n\
@@ -44,7 +45,7 @@ exec 4<\"$1\" && mount -i -n -t overlay -o \"lowerdir=/proc/self/fd/4,upperdir=u
 else\n\
 lay \"$@\" || exit 125\n\
 fi\n\
-echo mounted >&0 && exec </dev/null || exit 125\n";
+printf '\\001' >&2 || exit 125\n";
 
 /// Behind that: enters DIR and starts what follows. The words of the other script are taken away.
 pub(crate) const GO: &str = "\
@@ -73,6 +74,7 @@ exit $1\n";
 /// run only in a process namespace of its own. Its words are TEXT, the command's LC_ALL, and the folder in which it was before,
 /// each of the two behind a sign, or empty if it has none.
 pub(crate) const WRAP: &str = "\
+exec 2>&8 8>&-\n\
 if [ \"$2\" ]; then LC_ALL=${2#=}; else unset LC_ALL; fi\n\
 if [ \"$3\" ]; then export OLDPWD=\"${3#=}\"; else unset OLDPWD; fi\n\
 /bin/sh -c -- \"$1\" 9>&-; r=$?; kill -9 -1 2>/dev/null; exit $r\n";

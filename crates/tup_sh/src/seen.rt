@@ -24,6 +24,8 @@ pub(crate) struct Seen<'a, R: Files<File = File> + Clone + Drop> {
     pub(crate) untracked: &'a mut Untracked,
     /// Places that were looked at and are no links.
     pub(crate) plain: BTreeSet<String>,
+    /// Folders that were asked for with all above them, because of what was missed or made in them.
+    pub(crate) above: BTreeSet<Path>,
     /// Whether an answer is sure to be of the path to which its place leads now. It isn't where a link on the way is the command's
     /// own, which may have led elsewhere then, or leads to no text, and isn't followed.
     pub(crate) is_sure: bool,
@@ -161,13 +163,67 @@ impl<R: Files<File = File> + Clone + Drop> Seen<'_, R> {
         }
     }
 
-    /// Adds a step. Below a folder that the command made, moved or removed nothing is asked of the project.
+    /// Adds a step. What is missed or made in a folder asks for that folder too. Below a folder that the command made, moved or
+    /// removed nothing is asked of the project.
     fn add(&mut self, alloc: Global, step: Step) -> Result<(), Failure> {
+        self.ask_above(alloc, &step)?;
         if self.is_below(alloc, &step)? {
             self.add_below(&step)
         } else {
             self.put(&step)
         }
+    }
+
+    /// Asks for the folders above what a step misses or makes.
+    fn ask_above(&mut self, alloc: Global, step: &Step) -> Result<(), Failure> {
+        match step {
+            Step::Ask(path, answer) => match answer {
+                Answer::Found => Ok(()),
+                Answer::Missed => self.ask_folders(alloc, path),
+                Answer::Unclear => self.ask_if_missing(alloc, path),
+            },
+            Step::Write(path) => self.ask_folders(alloc, path),
+            Step::Change(path) => self.ask_if_missing(alloc, path),
+            Step::Remove(_) => Ok(()),
+            Step::Move { to, .. } => self.ask_folders(alloc, to),
+        }
+    }
+
+    /// Asks for the folders above a path at which nothing stood before the command.
+    fn ask_if_missing(&mut self, alloc: Global, path: &Path) -> Result<(), Failure> {
+        if self.account.is_own(path) {
+            return Ok(());
+        }
+        match self.tree.before(path)? {
+            Standing::Nothing => self.ask_folders(alloc, path),
+            _ => Ok(()),
+        }
+    }
+
+    /// Asks for the folders above a path. Those of an output of the rule were made for the command, and those in a folder that it
+    /// made, moved or removed are its own.
+    fn ask_folders(&mut self, alloc: Global, path: &Path) -> Result<(), Failure> {
+        if self.tree.own.contains(path) || self.is_below_own(alloc, path)? {
+            return Ok(());
+        }
+        let mut above = parent(alloc, path)?;
+        for _ in 1..path.depth() {
+            match above {
+                Some(folder) => above = self.ask_folder(alloc, &folder)?,
+                None => return Ok(()),
+            }
+        }
+        Ok(())
+    }
+
+    /// Asks for a folder, and gives the one above it. `None` where that was done before.
+    fn ask_folder(&mut self, alloc: Global, folder: &Path) -> Result<Option<Path>, Failure> {
+        if self.above.contains(folder) {
+            return Ok(None);
+        }
+        self.above.insert(folder.clone()?)?;
+        self.put(&Step::Ask(folder.clone()?, Answer::Unclear))?;
+        parent(alloc, folder)
     }
 
     /// Whether a step asks, and below such a folder.
@@ -311,7 +367,27 @@ impl<R: Files<File = File> + Clone + Drop> Seen<'_, R> {
     ) -> Result<Option<Path>, Failure> {
         let mut walk = Walk::to(alloc, place)?;
         self.go(alloc, &mut walk, follows)?;
-        walk.found(alloc, self.tree.root.as_str())
+        let path = walk.found(alloc, self.tree.root.as_str())?;
+        if path.is_none() {
+            self.ask_above_unseen(alloc, &mut walk)?;
+        }
+        Ok(path)
+    }
+
+    /// Asks for the folder above a place of the project that no path names.
+    fn ask_above_unseen(&mut self, alloc: Global, walk: &mut Walk) -> Result<(), Failure> {
+        let tree = self.tree;
+        let root = tree.root.as_str();
+        if !walk.ends_below(alloc, root)? {
+            return Ok(());
+        }
+        for _ in 0..walk.names.len() {
+            walk.names.pop();
+            if let Some(path) = walk.found(alloc, root)? {
+                return self.add(alloc, Step::Ask(path, Answer::Unclear));
+            }
+        }
+        Ok(())
     }
 
     /// Walks to the end, or as far as names are walked.
@@ -360,6 +436,7 @@ impl<R: Files<File = File> + Clone + Drop> Seen<'_, R> {
         if self.tree.before(&path)? != Standing::Folder {
             walk.is_lost = true;
             walk.rest.clear();
+            self.ask_if_missing(alloc, &path)?;
         }
         self.put(&Step::Ask(path, Answer::Unclear))
     }

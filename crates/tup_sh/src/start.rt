@@ -4,12 +4,14 @@ use crate::programs::{add_words, command, shell, succeeds};
 use crate::script::{GO, GO_AND_KEEP, INSIDE, MISSING, WRAP};
 use crate::stage::open_work;
 use crate::way::Way;
-use std::fs;
+use std::alloc::Global;
 use std::fs::File;
-use std::io::{ErrorKind, PipeReader, PipeWriter, Read, pipe};
+use std::io::{ErrorKind, PipeReader, PipeWriter, Read, Stderr, pipe};
 use std::process::{Child, Command, ExitStatus, Processes};
 use std::rt::Files;
+use std::{fs, str};
 use tup_child::{Failure, Tree, Words};
+use tup_path::Text;
 
 /// The cause where no namespace could be made.
 const NO_NAMESPACE: &str =
@@ -72,12 +74,67 @@ const INTO: [&str; 4] = [
     "/proc/self/fd/9",
 ];
 
-/// How the programs around a command ended.
-#[derive(Clone, Copy)]
-struct Ran {
-    /// Whether the overlay was mounted.
-    is_mounted: bool,
-    status: ExitStatus,
+/// How many bytes are kept of what the programs around a command print.
+const MAX_TEXT: usize = 2000;
+
+/// How often a pipe is read at most.
+const MAX_READS: u32 = u32::MAX;
+
+/// What the programs around a command print, and where they say that they have come so far.
+#[derive(Drop)]
+struct Talk {
+    reader: PipeReader,
+    text: Vec<u8>,
+    /// Whether the byte 1 came.
+    has_sign: bool,
+}
+
+impl Talk {
+    /// Nothing was said yet at the other end of a pipe.
+    fn of(alloc: Global, reader: PipeReader) -> Talk {
+        Talk {
+            reader,
+            text: Vec::new(alloc),
+            has_sign: false,
+        }
+    }
+
+    /// Listens until the next byte 1, or the end.
+    fn hear(&mut self) -> Result<(), Failure> {
+        let mut bytes = [0; 256];
+        for _ in 0..MAX_READS {
+            match self.reader.read(bytes.as_mut_slice()) {
+                Ok(0) => return Ok(()),
+                Ok(count) => {
+                    if self.take(bytes.as_slice(), count)? {
+                        return Ok(());
+                    }
+                }
+                Err(e) if e.kind() == ErrorKind::Interrupted => {}
+                Err(e) => return Err(Failure::System(e)),
+            }
+        }
+        Ok(())
+    }
+
+    /// Takes so many of these bytes, and gives whether the byte 1 is among them.
+    fn take(&mut self, bytes: &[u8], count: usize) -> Result<bool, Failure> {
+        let mut has_sign = false;
+        for byte in bytes.iter().take(count) {
+            if *byte == 1 {
+                has_sign = true;
+            } else if self.text.len() < MAX_TEXT {
+                self.text.push(*byte)?;
+            }
+        }
+        self.has_sign = self.has_sign || has_sign;
+        Ok(has_sign)
+    }
+
+    /// What was printed.
+    fn text(&self) -> &[u8] {
+        self.text.as_slice()
+    }
 }
 
 /// How a command is run apart.
@@ -86,6 +143,8 @@ pub(crate) struct Apart<'a> {
     pub(crate) words: &'a Words,
     pub(crate) ground: &'a Ground,
     pub(crate) way: Way,
+    /// Where the command prints its errors.
+    pub(crate) stderr: Stderr,
     /// Whether the calls that read a link are traced.
     pub(crate) sees_links: bool,
 }
@@ -105,35 +164,33 @@ pub(crate) fn start<R: Files<File = File> + Processes + Clone + Drop>(
     tree: &Tree<R>,
     apart: Apart,
 ) -> Result<(), Failure> {
-    let (mut reader, writer) = pipe(&tree.rt)?;
+    let (reader, writer) = pipe(&tree.rt)?;
     let mut child = spawn(tree, apart, writer)?;
-    let is_mounted = has_line(&mut reader);
-    if is_mounted {
+    let mut talk = Talk::of(tree.alloc, reader);
+    talk.hear()?;
+    if talk.has_sign {
         open_work(tree);
+        talk.hear()?;
     }
     let status = child.wait()?;
-    check(tree, &Ran { is_mounted, status })
+    check(tree, &talk, status)
 }
 
-/// Starts the command in namespaces of its own, with the end of a pipe as standard input.
+/// Starts the command in namespaces of its own. What the programs around it print goes into a pipe, and what it prints itself to
+/// where this program does: that is their standard input.
 fn spawn<R: Files<File = File> + Processes + Clone + Drop>(
     tree: &Tree<R>,
     apart: Apart,
     writer: PipeWriter,
 ) -> Result<Child<R::Started>, Failure> {
     let mut command = command_of(tree, apart)?;
-    command.stdin(writer);
+    command.stdin(apart.stderr);
+    command.stderr(writer);
     match command.spawn(&tree.rt) {
         Ok(child) => Ok(child),
         Err(e) if e.kind() == ErrorKind::NotFound => Err(Failure::Because(NO_NAMESPACE)),
         Err(e) => Err(Failure::System(e)),
     }
-}
-
-/// Whether a line was written before the pipe was closed.
-fn has_line(reader: &mut PipeReader) -> bool {
-    let mut bytes = [0; 1];
-    matches!(reader.read(bytes.as_mut_slice()), Ok(1))
 }
 
 /// What runs the command in namespaces of its own. All of it ends where this program does.
@@ -262,15 +319,35 @@ fn add_as_user<R: Files<File = File> + Clone + Drop>(
 }
 
 /// The cause, where the command wasn't run under the tracer.
-fn check<R: Files<File = File> + Clone + Drop>(tree: &Tree<R>, ran: &Ran) -> Result<(), Failure> {
+fn check<R: Files<File = File> + Clone + Drop>(
+    tree: &Tree<R>,
+    talk: &Talk,
+    status: ExitStatus,
+) -> Result<(), Failure> {
     let trace = tree.staged("trace")?;
-    match fs::metadata(&tree.rt, trace.as_str()) {
-        Err(_) if ran.is_mounted => Err(Failure::Because(NO_STAGE)),
-        Err(_) => Err(Failure::Because(NO_NAMESPACE)),
-        Ok(_) if !ran.is_mounted => Err(Failure::Because(NO_OVERLAY)),
-        Ok(found) if found.len() == 0 => Err(Failure::Because(untraced(ran.status))),
-        Ok(_) => Ok(()),
+    let cause = match fs::metadata(&tree.rt, trace.as_str()) {
+        Err(_) if talk.has_sign => NO_STAGE,
+        Err(_) => NO_NAMESPACE,
+        Ok(_) if !talk.has_sign => NO_OVERLAY,
+        Ok(found) if found.len() == 0 => untraced(status),
+        Ok(_) => return Ok(()),
+    };
+    Err(with_text(tree.alloc, talk.text(), cause)?)
+}
+
+/// A cause behind the first line of what was printed, as far as that is a text.
+fn with_text(alloc: Global, printed: &[u8], cause: &'static str) -> Result<Failure, Failure> {
+    let line = match printed.split(|byte| *byte == b'\n').next() {
+        Some(line) => str::from_utf8(line).unwrap_or(""),
+        None => "",
+    };
+    if line.is_empty() || cause == NO_FOLDER {
+        return Ok(Failure::Because(cause));
     }
+    Ok(Failure::Named {
+        name: Text::from_string(format!(in alloc; "{line}: ")?),
+        cause,
+    })
 }
 
 /// The cause, where the trace is empty.

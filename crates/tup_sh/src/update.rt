@@ -5,11 +5,16 @@ use std::rt::Files;
 use tup_child::{Failure, Tree};
 use tup_disk::{Operation, told};
 
+/// How the name of an update ends that is quiet.
+const QUIET: &str = ".quiet";
+
 /// The front of the names of the files of an update, as its stages' names have it.
 #[derive(Drop)]
 pub(crate) struct Update {
     /// `None` where the stage has no name of that form: then the command is alone.
     front: Option<String>,
+    /// Whether it shows nothing but what is wrong.
+    pub(crate) is_quiet: bool,
 }
 
 impl Update {
@@ -27,7 +32,11 @@ impl Update {
             }
             _ => None,
         };
-        Ok(Update { front })
+        let is_quiet = match &front {
+            Some(front) => front.as_str().ends_with(QUIET),
+            None => false,
+        };
+        Ok(Update { front, is_quiet })
     }
 
     /// Whether none of its commands has asked this before. One that is alone is the first.

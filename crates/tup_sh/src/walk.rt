@@ -40,9 +40,23 @@ impl Walk {
         Ok(())
     }
 
+    /// Whether it came to its end.
+    fn is_at_end(&self) -> bool {
+        !self.is_lost && self.rest.is_empty()
+    }
+
+    /// Whether it came to its end at a root or below it.
+    pub(crate) fn ends_below(&self, alloc: Global, root: &str) -> Result<bool, Failure> {
+        if !self.is_at_end() {
+            return Ok(false);
+        }
+        let place = self.place(alloc)?;
+        Ok(place.as_str().starts_with(root))
+    }
+
     /// The path of the place where it ended, below a root.
     pub(crate) fn found(&self, alloc: Global, root: &str) -> Result<Option<Path>, Failure> {
-        if self.is_lost || !self.rest.is_empty() {
+        if !self.is_at_end() {
             return Ok(None);
         }
         let place = self.place(alloc)?;
