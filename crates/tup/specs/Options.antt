@@ -1,7 +1,7 @@
 -- What the words of options ask for. Own.
 use Rattle.std.specs.Prelude.{List, ℕ, Option, Some, None, Result, Ok, Err, if◌then◌else◌, ◌||◌, true, false, is_some, codes, bytes_eq}
 use Rattle.tup_disk.specs.declared.disk.Syncs.{Syncs}
-use Rattle.tup_disk.specs.declared.disk.Syncs.TheVariants.{Done, Skipped}
+use Rattle.tup_disk.specs.declared.disk.Syncs.TheVariants.{Done, Once, Skipped}
 use Rattle.tup_top.specs.Order.{jobs_in, joined_jobs}
 use Rattle.tup.specs.declared.options.Voice.{Voice}
 use Rattle.tup.specs.declared.options.Voice.TheVariants.{Quiet, Verbose}
@@ -19,8 +19,13 @@ with_proc word options = if is_some options.program then Err (Twice word) else O
 
 -- the option by which nothing is made durable, which stands once
 abbrev pub with_no_sync : List ℕ → Options → Syncs → Result Options Fault
-with_no_sync word options Skipped = Err (Twice word)
 with_no_sync word options Done = Ok (record options { syncs = Skipped })
+with_no_sync word options Skipped = Err (Twice word)
+with_no_sync word options Once = Err (Twice word)
+
+-- the option by which each file is read, which stands once
+abbrev pub with_digest : List ℕ → Options → Result Options Fault
+with_digest word options = if options.digests then Err (Twice word) else Ok (record options { digests = true })
 
 -- the option by which an update goes on after a bad command, which stands once
 abbrev pub with_keep_going : List ℕ → Options → Result Options Fault
@@ -54,6 +59,7 @@ added word options = if options.awaits_program then Ok (with_program word option
     else if options.awaits_jobs then with_jobs (jobs_in word) options
     else if bytes_eq word (codes "--proc") then with_proc word options
     else if bytes_eq word (codes "--no-sync") then with_no_sync word options options.syncs
+    else if bytes_eq word (codes "--digest") then with_digest word options
     else if bytes_eq word (codes "-k") then with_keep_going word options
     else if bytes_eq word (codes "--quiet") then with_voice Quiet word options options.voice
     else if bytes_eq word (codes "--verbose") then with_voice Verbose word options options.voice
@@ -65,16 +71,18 @@ abbrev pub first_said : {T : Type 0} → Option T → Option T → Option T
 first_said (Some said) other = Some said
 first_said None other = other
 
--- nothing is made durable where one of two options says so
-abbrev pub skipped_by : Syncs → Syncs → Syncs
-skipped_by Skipped other = Skipped
-skipped_by Done other = other
+-- when what is written is made durable, by the first of two that says it
+abbrev pub syncs_by : Syncs → Syncs → Syncs
+syncs_by Done other = other
+syncs_by Once other = Once
+syncs_by Skipped other = Skipped
 
 -- options, and others for what they don't say
 abbrev pub behind : Options → Options → Options
 behind own others = record {
   program = first_said own.program others.program;
-  syncs = skipped_by own.syncs others.syncs;
+  syncs = syncs_by own.syncs others.syncs;
+  digests = own.digests || others.digests;
   keep_going = own.keep_going || others.keep_going;
   voice = first_said own.voice others.voice;
   jobs = first_said own.jobs others.jobs;

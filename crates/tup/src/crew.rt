@@ -2,6 +2,7 @@
 ghost use Rattle.std.specs.Prelude.{IfOk};
 ghost use Rattle.tup_top.specs.Crew.{IsCrew};
 
+use crate::options::Voice;
 use crate::screen::{ErrorScreen, Kept};
 use crate::streams::was_closed;
 use crate::top::Top;
@@ -49,10 +50,11 @@ impl Seats {
         alloc: Global,
         top: &Top,
         jobs: u32,
+        voice: Option<Voice>,
     ) -> Result<Seats, AllocError> {
         Ok(Seats {
             above: Text::from_string(top.place(alloc, STAGES)?),
-            update: update_name(rt, alloc)?,
+            update: update_name(rt, alloc, voice)?,
             keeps: jobs > 1 || was_closed(rt),
         })
     }
@@ -121,12 +123,17 @@ fn starter(
     Ok(ProcRunner::new(rt, alloc, root, program.clone()?, stages, kept))
 }
 
-/// A name that no other update of the project has: the time at which it begins, and the number of its process.
-fn update_name(rt: HostRuntime, alloc: Global) -> Result<Text, AllocError> {
+/// A name that no other update of the project has: the time at which it begins, and the number of its process. It tells the program
+/// that runs commands whether the update is quiet.
+fn update_name(rt: HostRuntime, alloc: Global, voice: Option<Voice>) -> Result<Text, AllocError> {
     let time = since_1970(&rt);
     let (seconds, nanos) = (time.as_secs(), time.subsec_nanos());
     let id = process::id(rt.process());
-    Ok(Text::from_string(format!(in alloc; "{seconds}.{nanos}.{id}")?))
+    let end = match voice {
+        Some(Voice::Quiet) => ".quiet",
+        Some(Voice::Verbose) | None => "",
+    };
+    Ok(Text::from_string(format!(in alloc; "{seconds}.{nanos}.{id}{end}")?))
 }
 
 /// The time since 1970, none where the clock doesn't tell.

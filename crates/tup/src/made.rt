@@ -31,6 +31,7 @@ pub(crate) fn clean(rt: HostRuntime, alloc: Global, top: &Top, syncs: Syncs) -> 
     let mut text = String::new(alloc);
     match remove_all(rt, alloc, top, &mut site, &mut text) {
         Ok(removed) => {
+            site.take_emptied();
             let status = Status::Done {
                 read: 0,
                 ran: 0,

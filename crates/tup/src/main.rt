@@ -5,10 +5,10 @@
 //! system said of a call that failed; it is tested, and proved to be safe, but it makes no promise of its own.
 #![tactic(auto)]
 
-ghost use Rattle.tup_top.specs.Crew.{IsCrew};
-
 mod blame;
+mod call;
 mod crew;
+mod digest;
 mod error_log;
 mod hint;
 mod made;
@@ -23,27 +23,19 @@ mod top;
 mod usage;
 mod words;
 
-use crew::{Seats, crew_of, minis, since_1970, starters};
-use error_log::ErrorLog;
+use call::{Call, run_by_minis, run_through};
 use options::{Options, Voice};
-use output::{Counts, Lines, Output};
-use screen::{ErrorScreen, manner};
+use screen::manner;
 use std::alloc::{AllocError, Global};
 use std::io;
-use std::io::IsTerminal;
 use std::process::ExitCode;
-use std::rt::Clock;
 use std::sync::Wait;
 use std::thread::Threads;
-use std::time::Duration;
 use top::Top;
-use tup_fs::{FsSite, QUIET_SECONDS, Syncs};
+use tup_fs::Syncs;
 use tup_path::Text;
-use tup_proc_runner::{ProcFault, ProcRunner};
-use tup_progress::{Manner, Progress, Started};
-use tup_runner::Runner;
-use tup_tell::LineReporter;
-use tup_top::{Order, OrderFault, Status, Word, order_of, tup};
+use tup_progress::Manner;
+use tup_top::{Order, OrderFault, Status, Word, order_of};
 use words::words;
 
 const HELP: &str = "\
@@ -68,6 +60,7 @@ tup makes the files that the Tupfiles of a project ask for. It may be called in 
   tup --log       update, and print to standard error what was read, removed, started and ended; also tup upd --log
   tup --verbose   update, and print each command before it is run; also tup upd --verbose
   tup --quiet     update, and show nothing while it runs; also tup upd --quiet
+  tup --digest    update, and read each file, also one that looks as it did; also tup upd --digest
   tup --help      print this
   tup --version   print the version
 
@@ -80,7 +73,7 @@ Exit numbers: 0 done, 1 a command's fault, 2 usage, 3 no project here, or one al
 const JOBS: u32 = 4;
 
 /// The version. The tests, the manual and the Makefile read it here.
-const VERSION: &str = "0.13";
+const VERSION: &str = "0.14";
 
 /// How many bytes the block has that is freed first.
 const FIRST_BLOCK: usize = 33_000_000;
@@ -146,15 +139,6 @@ fn show(rt: HostRuntime, large: tup_large::Shown) -> u8 {
     }
 }
 
-/// What a call is about.
-#[derive(Drop)]
-struct Call<'a> {
-    words: &'a [Word],
-    top: &'a Top,
-    syncs: Syncs,
-    manner: Manner,
-}
-
 /// Begins a project in the working folder, with these options; where one has begun there, it has these options now. They are
 /// written before the store: so no project begins without them, whatever stops this.
 fn init<W: Threads + Wait + Sync>(
@@ -178,8 +162,34 @@ fn init<W: Threads + Wait + Sync>(
     }
 }
 
-/// Carries out an order; only what works on a project looks for it.
+/// Carries out an order; only what works on a project looks for it. The word that has each file read is for this program alone.
 fn obey<W: Threads + Wait + Sync>(rt: HostRuntime, crews: &W, alloc: Global, words: &[Word]) -> u8 {
+    let Some(at) = digest::place(words) else {
+        return obey_plain(rt, crews, alloc, words, false);
+    };
+    let Ok(plain) = digest::without(alloc, words, at) else {
+        return told(&rt, Status::Memory);
+    };
+    match order_of(plain.as_slice()) {
+        Err(OrderFault::Usage { place }) => {
+            let status = Status::Usage {
+                place: digest::place_with(at, place),
+            };
+            usage::explain(rt, words, &status);
+            told(&rt, status)
+        }
+        _ => obey_plain(rt, crews, alloc, plain.as_slice(), true),
+    }
+}
+
+/// Carries out an order of these words.
+fn obey_plain<W: Threads + Wait + Sync>(
+    rt: HostRuntime,
+    crews: &W,
+    alloc: Global,
+    words: &[Word],
+    digests: bool,
+) -> u8 {
     match order_of(words) {
         Ok(
             Order::Upd {
@@ -194,6 +204,7 @@ fn obey<W: Threads + Wait + Sync>(rt: HostRuntime, crews: &W, alloc: Global, wor
             let asked = Options {
                 program,
                 syncs: Syncs::Done,
+                digests,
                 keep_going,
                 voice: voice(quiet, verbose),
                 jobs,
@@ -240,7 +251,9 @@ fn todo<W: Threads + Wait + Sync>(rt: HostRuntime, crews: &W, alloc: Global, wor
                 words,
                 top: &top,
                 syncs: options.syncs,
+                digests: options.digests,
                 manner: Manner::Silent,
+                voice: None,
             };
             run_by_minis(rt, crews, alloc, &call, options.jobs.unwrap_or(JOBS)).exit()
         }
@@ -377,7 +390,9 @@ fn update_by<W: Threads + Wait + Sync>(
         words,
         top,
         syncs: options.syncs,
+        digests: options.digests,
         manner: manner(rt, options.voice),
+        voice: options.voice,
     };
     let jobs = options.jobs.unwrap_or(JOBS);
     match options.program {
@@ -390,7 +405,7 @@ fn update_by<W: Threads + Wait + Sync>(
     }
 }
 
-/// Carries out words by the small commands, and shows none of them.
+/// Carries out words by the small commands, and shows none of them. Each file is read.
 fn run_small<W: Threads + Wait + Sync>(
     rt: HostRuntime,
     crews: &W,
@@ -403,196 +418,11 @@ fn run_small<W: Threads + Wait + Sync>(
         words,
         top,
         syncs,
+        digests: true,
         manner: Manner::Silent,
+        voice: None,
     };
     run_by_minis(rt, crews, alloc, &call, 1)
-}
-
-/// Has a crew of so many that run the small commands carry out a call.
-fn run_by_minis<W: Threads + Wait + Sync>(
-    rt: HostRuntime,
-    crews: &W,
-    alloc: Global,
-    call: &Call,
-    jobs: u32,
-) -> Status {
-    match minis(alloc, jobs) {
-        Ok(runners) => run(rt, crews, alloc, call, None, runners).0,
-        Err(_) => no_memory(rt),
-    }
-}
-
-/// Has a crew of these runners carry out a call; gives how it ended, and the runners back.
-fn run<W: Threads + Wait + Sync, R: Runner + Send>(
-    rt: HostRuntime,
-    crews: &W,
-    alloc: Global,
-    call: &Call,
-    seats: Option<&Seats>,
-    runners: Vec<R>,
-) -> (Status, Vec<R>)
-    requires { IsCrew runners.items }
-{
-    let Ok(mut site) = FsSite::new(rt, alloc, call.top.root.as_str(), call.syncs) else {
-        return (no_memory(rt), runners);
-    };
-    note_stamps(rt, &mut site);
-    let Ok(back) = Vec::with_capacity(alloc, runners.len()) else {
-        return (no_memory(rt), runners);
-    };
-    let started = Started::new();
-    match crew_of(rt, alloc, call.manner, &started, seats, runners) {
-        Ok(crew) => run_crew(rt, crews, alloc, call, site, crew, &started, back),
-        Err(_) => (no_memory(rt), back),
-    }
-}
-
-/// Has a site keep the stamps of files in `.tup/stamps`. Without a clock it doesn't.
-fn note_stamps(rt: HostRuntime, site: &mut FsSite<HostRuntime>) {
-    if let Ok(now) = rt.since_1970() {
-        site.keep_stamps(now, QUIET_SECONDS);
-    }
-}
-
-/// Has a crew carry out a call over a site; gives how it ended, and the runners back in what has room for them.
-fn run_crew<W: Threads + Wait + Sync, R: Runner + Send>(
-    rt: HostRuntime,
-    crews: &W,
-    alloc: Global,
-    call: &Call,
-    site: FsSite<HostRuntime>,
-    crew: Vec<Progress<R, ErrorScreen>>,
-    started: &Started,
-    mut back: Vec<R>,
-) -> (Status, Vec<R>)
-    requires { IsCrew crew.items }
-{
-    let began = since_1970(&rt);
-    let lines = lines_of(rt, call);
-    let mut output = Output::new(&rt, call.manner == Manner::Over, lines);
-    let Ok(mut tellers) = log_of(rt, alloc, call) else {
-        return (no_memory(rt), back);
-    };
-    let ran = tup(
-        crews,
-        alloc,
-        call.words,
-        site,
-        crew,
-        started,
-        &mut tellers,
-        &mut output,
-    );
-    let (status, mut site, crew) = (ran.status, ran.site, ran.crew);
-    if lines == Lines::Short {
-        tell_counts(rt, &status, output.counts, began);
-    }
-    if let Some(failure) = site.last() {
-        // Words that can't be printed change nothing: the exit number tells as much.
-        drop(eprintln!(rt; "tup: {failure}"));
-    }
-    hint::begin(rt, call.top, &status);
-    hint::begin_anew(rt, alloc, call.top, &status);
-    blame::explain(rt, alloc, call.top, &mut site, &status);
-    usage::explain(rt, call.words, &status);
-    site.leave();
-    for progress in crew {
-        // Without room it is dropped.
-        drop(back.push(progress.into_runner()));
-    }
-    (status, back)
-}
-
-/// How standard output takes the lines of a call: at a terminal where each command was shown, only those that say more.
-fn lines_of(rt: HostRuntime, call: &Call) -> Lines {
-    let is_shown = call.manner == Manner::Over && rt.stdout().is_terminal();
-    match order_of(call.words) {
-        Ok(Order::Upd { explain: false, .. }) if is_shown => Lines::Short,
-        _ => Lines::All,
-    }
-}
-
-/// Tells how many commands were run, and how long that took, where any were.
-fn tell_counts(rt: HostRuntime, status: &Status, counts: Counts, began: Duration) {
-    let Counts { good, bad } = counts;
-    let seconds = since_1970(&rt).saturating_sub(began).as_secs();
-    // Words that can't be printed change nothing.
-    drop(match status {
-        _ if bad > 0 => eprintln!(rt; "tup: {bad} failed, {good} ran, {seconds} s"),
-        Status::Done { ran, removed, .. } if *ran > 0 || *removed > 0 => {
-            eprintln!(rt; "tup: {ran} commands, {removed} removed, {seconds} s")
-        }
-        _ => Ok(()),
-    });
-}
-
-/// Who writes what an update did to standard error, where the words ask for that.
-fn log_of(
-    rt: HostRuntime,
-    alloc: Global,
-    call: &Call,
-) -> Result<Vec<LineReporter<ErrorLog>>, AllocError> {
-    let mut tellers = Vec::new(alloc);
-    if let Ok(Order::Upd { log: true, .. }) = order_of(call.words) {
-        let log = ErrorLog::new(rt, call.manner == Manner::Over);
-        tellers.push(LineReporter::new(alloc, log))?;
-    }
-    Ok(tellers)
-}
-
-/// Prints that there was no memory.
-fn no_memory(rt: HostRuntime) -> Status {
-    told(&rt, Status::Memory);
-    Status::Memory
-}
-
-/// Has a crew of so many that start this program for each command carry out a call; gives the exit number.
-fn run_through<W: Threads + Wait + Sync>(
-    rt: HostRuntime,
-    crews: &W,
-    alloc: Global,
-    call: &Call,
-    program: &Text,
-    jobs: u32,
-) -> u8 {
-    let Ok(seats) = Seats::new(rt, alloc, call.top, jobs) else {
-        return told(&rt, Status::Memory);
-    };
-    let Ok(runners) = starters(rt, alloc, call.top, program, &seats, jobs) else {
-        return told(&rt, Status::Memory);
-    };
-    if let Err(status) = stages::check(rt, alloc, call.top) {
-        return status;
-    }
-    let (status, runners) = run(rt, crews, alloc, call, Some(&seats), runners);
-    tell_faults(rt, program, &runners);
-    leave(alloc, runners.as_slice());
-    hint::name_folder(rt, &status);
-    status.exit()
-}
-
-/// Removes what the last commands left. Behind a fault all stays: whoever looks for the cause finds it there.
-fn leave(alloc: Global, runners: &[ProcRunner<HostRuntime>]) {
-    if runners.iter().all(|runner| runner.last().is_none()) {
-        for runner in runners {
-            runner.leave(alloc);
-        }
-    }
-}
-
-/// Prints why the runners of a program failed, unless the program said it. What is to be said of several, one after another, is
-/// printed once.
-fn tell_faults(rt: HostRuntime, program: &Text, runners: &[ProcRunner<HostRuntime>]) {
-    let mut before = None;
-    for runner in runners {
-        if let Some(fault) = runner.last() {
-            if before != Some(fault) && *fault != ProcFault::Told {
-                // Words that can't be printed change nothing: the exit number tells as much.
-                drop(eprintln!(rt; "tup: {program}: {fault}"));
-            }
-            before = Some(fault);
-        }
-    }
 }
 
 /// The exit number of a text that was to be printed.

@@ -25,6 +25,8 @@ pub(crate) struct Options {
     pub(crate) program: Option<Text>,
     /// Whether what is written is made durable.
     pub(crate) syncs: Syncs,
+    /// Whether each file is read, also one that looks as it did.
+    pub(crate) digests: bool,
     /// Whether an update goes on after a bad command.
     pub(crate) keep_going: bool,
     /// How much it shows while it runs, if that is said.
@@ -93,6 +95,7 @@ impl Options {
         Options {
             program: None,
             syncs: Syncs::Done,
+            digests: false,
             keep_going: false,
             voice: None,
             jobs: None,
@@ -142,11 +145,12 @@ impl Options {
         match word {
             "--proc" if self.program.is_none() => self.awaits_program = true,
             "--no-sync" if self.syncs == Syncs::Done => self.syncs = Syncs::Skipped,
+            "--digest" if !self.digests => self.digests = true,
             "-k" if !self.keep_going => self.keep_going = true,
             "--quiet" => return self.speak(alloc, word, Voice::Quiet),
             "--verbose" => return self.speak(alloc, word, Voice::Verbose),
             "-j" if self.jobs.is_none() => self.awaits_jobs = true,
-            "--proc" | "--no-sync" | "-k" | "-j" => {
+            "--proc" | "--no-sync" | "--digest" | "-k" | "-j" => {
                 return Err(Fault::Twice(Text::from_str(alloc, word)?));
             }
             _ => return self.add_joined(alloc, word, joined_jobs(word.as_bytes())),
@@ -224,7 +228,9 @@ impl Options {
             syncs: match self.syncs {
                 Syncs::Skipped => Syncs::Skipped,
                 Syncs::Done => others.syncs,
+                Syncs::Once => Syncs::Once,
             },
+            digests: self.digests || others.digests,
             keep_going: self.keep_going || others.keep_going,
             voice: self.voice.or(others.voice),
             jobs: self.jobs.or(others.jobs),

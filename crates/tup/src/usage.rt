@@ -7,8 +7,9 @@ const ORDERS: [&str; 8] = [
 ];
 
 /// The options of an update, and what else a word may be that begins so.
-const OPTIONS: [&str; 9] = [
+const OPTIONS: [&str; 10] = [
     "--proc",
+    "--digest",
     "--explain",
     "--log",
     "--verbose",
