@@ -1,7 +1,7 @@
 #!/bin/sh
 # crates.txt names the crates from the lowest storey up. A crate may stand on those above its own line alone: this names
 # each dependency that points the other way, and each crate that the file or the folder lacks, and ends with 1 if there is one.
-cd "$(dirname "$0")/.." || exit 1
+cd "$(dirname "$0")/../.." || exit 1
 ls crates | awk '
     FNR == NR { folder[$1]; next }
     /^ *(#|$)/ { next }

@@ -1,4 +1,5 @@
-"""Runs what README and docs/USING.md show at a terminal, over copies of examples/, and compares what `tup` prints: `make examples`.
+"""Runs what README and docs/USING.md show at a terminal, and the SESSION of each folder of examples/language, over copies of
+examples/, and compares what `tup` prints: `make examples`.
 
     examples.py PROGRAM
 
@@ -21,10 +22,10 @@ def blocks(book, title):
     return [[line[4:] for line in block.splitlines()] for block in re.findall(r'(?:^    .*\n?)+', part, re.M)]
 
 
-def session():
-    """README's session: each command line with what it prints."""
+def session(lines):
+    """Each command line of a session with what it prints."""
     steps = []
-    for line in next(block for block in blocks('README.md', '## Ten lines at a terminal') if block[0].startswith('$ ')):
+    for line in lines:
         if line.startswith('$ '):
             steps.append((line[2:], []))
         else:
@@ -45,7 +46,10 @@ def sessions():
     first, edited, removed = printed('## An example of three folders')
     (todo,), (explained,) = printed('## What an update would do'), printed('## Why a rule was run')
     begun = [('tup init', ['initialized']), ('tup', first)]
-    yield 'hello', session()
+    yield 'hello', session(next(block for block in blocks('README.md', '## Ten lines at a terminal') if block[0].startswith('$ ')))
+    for form in sorted(os.listdir(os.path.join(TOP, 'examples', 'language'))):
+        if os.path.isdir(os.path.join(TOP, 'examples', 'language', form)):
+            yield f'language/{form}', session(read('examples', 'language', form, 'SESSION').splitlines())
     yield 'tree', [*begun, (EDIT + 'tup', edited), ('rm src/Tupfile; tup', removed)]
     yield 'tree', [*begun, (EDIT + 'tup todo', todo)]
     yield 'tree', [*begun, (EDIT + 'tup --explain', explained)]
@@ -70,7 +74,7 @@ def main(words):
     all_steps = list(sessions())
     if os.path.basename(program) != 'tup' or any([differs(program, *one) for one in all_steps]):
         return 1
-    print(f'{sum(len(steps) for _, steps in all_steps)} command lines print what README and USING show')
+    print(f'{sum(len(steps) for _, steps in all_steps)} command lines print what README, USING and examples/language show')
     return 0
 
 

@@ -102,6 +102,7 @@ lacking() {
     [ $status = 1 ] || wrong "exit number $status"
     [ -e "$stage/log" ] && wrong "there is a log"
     told "$line"
+    [ "$(wc -l < "$work/said")" = 1 ] || wrong "it said more: $(cat "$work/said")"
 }
 # -- what is missing is named: a program, and namespaces of the user's own
 mkdir "$work/few" && ln -s "$(command -v sh)" "$work/few/sh"
@@ -137,7 +138,7 @@ try '' 'cat links/circle; head -c 0 links/outside' 'R links/circle,R links/outsi
 # -- a link that leads to no text isn't followed, and it says so
 try '' 'cat links/strange' 'A links/strange,E 1'
 told "tup_sh: reads src/links/strange, which tup doesn't see: its changes won't run this command again"
-try '' 'cat links/strange .quiet; rm -f links/strange; ln -s a links/strange; cat links/strange' 'A links/strange,A links/a,E 1'
+try '' 'cat links/strange .quiet; rm -f links/strange; ln -s a links/strange; cat links/strange' 'A links/strange,A links,A links/a,E 1'
 told "tup_sh: reads src/links/strange, which"
 [ "$(grep -c "which tup doesn't see" "$work/said")" = 1 ] || wrong "it said $(cat "$work/said")"
 try '' 'readlink links/strange; ls links >/dev/null' 'A links/strange,A links,E 0'
@@ -224,6 +225,18 @@ fi
 try '' 'mkdir q && echo made > made || echo had > made' 'A q,W made,E 0'
 try '' 'mkdir sub 2> /dev/null || echo had > had; ln -s a q; cat q; rm q' 'A sub,A q,R a,W had,E 0'
 try '' '[ -d . ] && [ -d .. ] && cd ../src && cat a' 'R a,E 0'
+# -- what is made in a folder asks for it, and so does what is missed there, for all above it; the folders of own outputs are made
+# for the command
+try '' 'mkdir sub/t && rmdir sub/t' 'A sub,A sub/t,E 0'
+try '' 'echo x > sub/tmp; rm sub/tmp; echo x >> e/tmp; rm e/tmp' 'A sub,A e,A e/tmp,E 0'
+try '' 'ln -s x sub/l; rm sub/l; ln a e/hl; rm e/hl' 'A sub,A sub/l,R a,A e,A e/hl,E 0'
+try '' 'echo x > t; mv t sub/t; rm sub/t' 'A sub,A sub/t,E 0'
+try '' 'mkdir d/t' 'A d,A d/t,E 1'
+try '' 'cat d/f/g d/f/h a/x' 'A d/f,A d,A d/f/g,A d/f/h,R a,A a/x,E 1'
+try '' 'cat d/f/../g' 'A d,A d/f,E 1'
+try '' 'mkdir sub/t; echo x > sub/t/f; cat sub/t/g; rm -r sub/t' 'A sub,A sub/t,E 0'
+try '' 'echo x > sub/.tmp; rm sub/.tmp; cat d/.tmp e/s/.git/x' 'A sub,A d,A e,A e/s,E 1'
+try 'sub/t f/o' 'echo x > sub/t; cat f/o' 'A f/o,W sub/t,E 1'
 # -- `..` asks for the folder that it leaves, and leads nowhere where none is
 try '' 'cat nodir/../a; cat sub/../b; cat a/../b' 'A nodir,A sub,R b,R a,E 1'
 # -- below a folder that the command made, moved or removed nothing is asked of the project

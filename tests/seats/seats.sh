@@ -4,7 +4,7 @@
 # seconds and use next to no processor. In a scan: two digests that wait for each other. The program (tests/seats/*.rt.txt) is tried
 # unproved on a copy of this checkout, in some minutes. It ends with 1 where something else came.
 set -eu
-cd "$(dirname "$0")/.."
+cd "$(dirname "$0")/../.."
 work=$(mktemp -d)
 trap 'rm -rf "$work"' EXIT
 git ls-files -z -- crates crates.txt HANDLES | xargs -0 cp --parents -t "$work"

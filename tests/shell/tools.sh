@@ -5,7 +5,7 @@
 set -u
 tup=$(realpath "$1")
 sh=$(realpath "$2")
-example=$(realpath "$(dirname "$0")/../examples/clangd")
+example=$(realpath "$(dirname "$0")/../../examples/clangd")
 has() { command -v "$1" > /dev/null; }
 if ! strace -o /dev/null true 2> /dev/null; then
     echo "passed over: there is no strace, or it may not trace"

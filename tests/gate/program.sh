@@ -4,9 +4,10 @@
 # superuser (a full disk, files without permission) is passed over for others, and what needs tup_shim where that isn't
 # built in the folder beside.
 set -u
+. "$(dirname "$0")/../lib.sh"
 tup=$(realpath "$1")
 script=$(realpath "$0")
-version=$(sed -n 's/^const VERSION: &str = "\(.*\)";/\1/p' "$(dirname "$0")/../crates/tup/src/main.rt")
+version=$(sed -n 's/^const VERSION: &str = "\(.*\)";/\1/p' "$(dirname "$0")/../../crates/tup/src/main.rt")
 shim=$(realpath -m "$(dirname "$tup")/../../tup_shim/out/tup_shim")
 work=$(mktemp -d)
 trap 'cd /; umount "$work/small" 2>/dev/null; rm -rf "$work"' EXIT
@@ -25,13 +26,6 @@ folder() {
 project() {
     folder "$@"
     "$tup" init > /dev/null || exit 1
-}
-
-# Compares two texts, and says which row differs.
-same() {
-    if [ "$2" = "$3" ]; then return; fi
-    failures=$((failures + 1))
-    printf 'differs: %s\n  wanted: %s\n  found:  %s\n' "$1" "$3" "$2"
 }
 
 # Runs the program with words: the row's name, its exit number, its lines with a semicolon behind each, the words. Only
@@ -55,6 +49,7 @@ row() {
         # The file and the line, as editors read them, and what is wrong there.
         '5 '*fault:*:[0-9]*:*) place=${lines##*fault: }; place=$(printf '%s' "$place" | grep -o '^[^:]*:[0-9]*:')
             same "$name, standard error" "$(cut -d: -f1,2 "$work/said" | sed 's/$/:/' | head -1)" "$place" ;;
+        *'bad .: cp pipe c;'*) said './pipe: a pipe, a socket or a device stands here, and counts as no file' ;;
         *'no tup project here;') said '`tup init` begins a project here' ;;
         *'damaged at byte 0;') said_of_store ;;
         *) same "$name, standard error" "$(cat "$work/said")" "" ;;
@@ -71,9 +66,6 @@ said_of_store() {
         *) same "$name, standard error" "$(cat "$work/said")" "" ;;
     esac
 }
-
-file() { same "$1" "$(cat "$2" 2>&1)" "$3"; }
-gone() { same "$1" "$(ls "$2" 2>/dev/null)" ""; }
 
 copy=': a |> cp a b |> b'
 done_copy='read .;run .: cp a b;done: 1 read, 1 run, 0 removed;'
@@ -504,7 +496,7 @@ row "a write of more than a file may hold" 1 'read .;run .: cat half half > b;ba
 same "one of just so much" "$(wc -c < b)" 16777216
 
 # Several folders.
-example() { count=$((count + 1)); cp -r "$(dirname "$script")/../examples/$1" "$work/$count" && cd "$work/$count" && "$tup" init > /dev/null || exit 1; }
+example() { count=$((count + 1)); cp -r "$(dirname "$script")/../../examples/$1" "$work/$count" && cd "$work/$count" && "$tup" init > /dev/null || exit 1; }
 example tree
 row "three folders" 0 'read .;read lib;read src;run lib: CC list.c;run lib: CC text.c;run src: CC main.c;run .: cat lib/list.o lib/text.o src/main.o > app;run .: echo app release > app.stamp;done: 3 read, 5 run, 0 removed;' upd
 file "what they give together" app "$(printf '#define SIZE 3\nint list[SIZE];\nint text;\n#define SIZE 3\nint main;')"

@@ -2,7 +2,7 @@
 # Each must-fail edit, in crates/CRATE/must-fail/ and in edits/CRATE/, has to find its text: each `old:` stands just once in the
 # file that the `file:` above it names, as the pairs before it left that. This names each edit that doesn't, or that changes
 # nothing, and ends with 1 if there is one: a change of the code that leaves an edit behind is seen at once, without a proof.
-cd "$(dirname "$0")/.." || exit 1
+cd "$(dirname "$0")/../.." || exit 1
 find crates/*/must-fail edits -name '*.edit' | LC_ALL=C sort | awk '
     # The edit, line by line.
     {

@@ -37,10 +37,11 @@ update() {
     ahead=$1
     shift
     told=$(cd project && LD_PRELOAD="$work/clock.so" CLOCK_AHEAD="$ahead" strace -f -qq -e trace=openat -e signal=none -o "$work/trace" \
-        "$@" "$tup" -j 2 | tail -1)
+        "$@" "$tup" -j 2 $words | tail -1)
     opened=$(sed -n 's/.*openat(AT_FDCWD, "\.\/\([^."][^"]*\)", O_RDONLY.*) = [0-9].*/\1/p' "$work/trace" | grep -v '/$' | sort -u | tr '\n' ' ')
 }
 
+words=
 nothing='done: 0 read, 0 run, 0 removed'
 all='Tupfile d/a d/b d/e/c out '
 
@@ -74,6 +75,19 @@ row() {
     same "$what: once more" "$told, $opened" "$nothing, "
 }
 ran='done: 0 read, 1 run, 0 removed'
+
+# Each file is read where that is asked for, by a word or for good.
+project
+words=--digest
+update 120
+same '--digest' "$told, $opened" "$nothing, $all"
+words=
+echo --digest > project/.tup/options
+update 120
+same '--digest for good' "$told, $opened" "$nothing, $all"
+: > project/.tup/options
+update 120
+same 'without it' "$told, $opened" "$nothing, "
 
 # Without a clock that is ahead: young files are read each time, and known a minute later.
 project

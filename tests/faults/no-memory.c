@@ -1,4 +1,4 @@
-/* One allocation that is refused, for tests/no-memory.sh: put before a program's libraries (LD_PRELOAD), it refuses the
+/* One allocation that is refused, for tests/faults/no-memory.sh: put before a program's libraries (LD_PRELOAD), it refuses the
  * allocation whose number REFUSED says, counted from 1, and none else; then it makes the file that TOLD names. */
 #define _GNU_SOURCE
 #include <errno.h>

@@ -1,7 +1,7 @@
 #!/bin/sh
 # What opening a graph, taking note of a scan and ending a run cost, in microseconds of a processor, over graphs of so
 # many rules as the words say; none: 1000, 10000 and 65536. The program that tells it isn't one of the crates, since the gate
-# would prove it each time: its text stands in tests/figures, and here it is proved and built in a copy of the checkout, as a
+# would prove it each time: its text stands in bench/figures, and here it is proved and built in a copy of the checkout, as a
 # crate of its own, with what checks kept of those below it. That takes some minutes.
 set -eu
 cd "$(dirname "$0")/.."
@@ -14,9 +14,9 @@ done
 mkdir -p "$work/crates/tup_figures/src" "$work/crates/tup_figures/specs" "$work/crates/tup_figures/proofs/figures/note"
 touch "$work/crates/tup_figures/specs/Lib.antt" "$work/crates/tup_figures/proofs/Lib.antt"
 for part in main figures store; do
-    cp "tests/figures/$part.txt" "$work/crates/tup_figures/src/$part.rt"
+    cp "bench/figures/$part.txt" "$work/crates/tup_figures/src/$part.rt"
 done
-cp tests/figures/note.txt "$work/crates/tup_figures/proofs/figures/note/Invariants.antt"
+cp bench/figures/note.txt "$work/crates/tup_figures/proofs/figures/note/Invariants.antt"
 echo '200 rules' > "$work/crates/tup_figures/stdout"
 echo 'tup_figures: tup_path tup_stamp tup_site tup_rule tup_scan tup_record tup_table tup_graph tup_stored_graph tup_commit' >> "$work/crates.txt"
 cd "$work/crates/tup_figures"

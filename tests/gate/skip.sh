@@ -4,6 +4,7 @@
 # each row the update is tried once more: it reads and runs nothing, and writes nothing. It ends with 1 where something differs.
 # What needs strace is passed over where that isn't there or may not trace.
 set -u
+. "$(dirname "$0")/../lib.sh"
 tup=$(realpath "$1")
 work=$(mktemp -d)
 trap 'cd /; rm -rf "$work"' EXIT
@@ -21,16 +22,6 @@ project() {
 
 # The Tupfile has these lines from now on.
 rules() { if [ $# -gt 0 ]; then printf '%s\n' "$@" > Tupfile; fi; }
-
-# Compares two texts, and says which row differs.
-same() {
-    if [ "$2" = "$3" ]; then return; fi
-    failures=$((failures + 1))
-    printf 'differs: %s\n  wanted: %s\n  found:  %s\n' "$1" "$3" "$2"
-}
-
-file() { same "$1" "$(cat "$2" 2>&1)" "$3"; }
-gone() { same "$1" "$(ls "$2" 2>/dev/null)" ""; }
 
 # What the next row's standard error says: of a fault of a Tupfile, the file and the line that it is about.
 says=

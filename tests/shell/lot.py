@@ -17,7 +17,7 @@ As root, some edits lay another file system over a folder of the project, or ano
 that meets a link to a folder fails by design: what comes of that isn't compared.
 
 Not drawn, as USING says that a command isn't run again for them: a folder that is listed and gets or loses a name, an empty folder or
-one that has only outputs, a folder in which a command makes something, or misses a folder, without asking for it, modes, and names that tup doesn't see.
+one that has only outputs, what is missed through a link that the command made and removed, modes, and names that tup doesn't see.
 
 What went wrong is printed with its seed, and the history is kept as a file for --again and --small. The end is then 1.
 """
@@ -162,7 +162,7 @@ class Drawing:
         at, n = self.named(folder, path), self.fresh()
         kind = self.lot.choice([
             'cat', 'cat', 'cat', 'test', 'test', 'test', 'readlink', 'realpath', 'mkdir', 'cd', 'find', 'gcc', 'clang', 'isdir', 'thread',
-            'moved', 'movedin', 'linked', 'size', 'kind', 'same', 'run', 'sleep'])
+            'moved', 'movedin', 'linked', 'made', 'size', 'kind', 'same', 'run', 'sleep'])
         if kind == 'cat':
             return 'cat %s' % at
         if kind == 'test':
@@ -173,8 +173,9 @@ class Drawing:
             # It goes round for ever at a link that leads below itself.
             return 'timeout 9 realpath %s' % at
         if kind == 'mkdir':
-            # What makes something in a folder has to ask for that folder besides: else it isn't run again when the folder comes or goes.
-            return 'test -d %s && mkdir %s && echo m%d && rmdir %s' % ((self.named(folder, os.path.dirname(path) or '.'),) + (at, n, at))
+            return 'mkdir %s && echo m%d && rmdir %s' % (at, n, at)
+        if kind == 'made':
+            return self.making(at, n)
         if kind == 'cd':
             return self.entering(folder, self.lot.choice(self.folders), path)
         if kind == 'find':
@@ -190,7 +191,8 @@ class Drawing:
         if kind == 'movedin':
             return 'mkdir n%d && { cp %s n%d/z; mv n%d o%d; cat o%d/z; rm -rf o%d; }' % (n, at, n, n, n, n, n)
         if kind == 'linked':
-            return 'ln -s %s k%d && { cat k%d; rm k%d; }' % (at, n, n, n)
+            # What is missed through a link that the command takes away again isn't known: so it is asked for besides.
+            return 'ln -s %s k%d && { test -e %s; cat k%d; rm k%d; }' % (at, n, at, n, n)
         if kind == 'size':
             return '(wc -c < %s)' % at
         if kind == 'kind':
@@ -200,6 +202,12 @@ class Drawing:
         if kind == 'run':
             return self.lot.choice(['sh %s', '%s']) % (at if '/' in at else './' + at)
         return 'sleep 0.1'
+
+    def making(self, at, n):
+        """Makes something at a path where nothing is, and takes it away again."""
+        make = self.lot.choice(['echo t%d > %s', 'ln -s t%d %s', 'cp main.c m%d && ln m%d %s', 'cp main.c m%d && mv m%d %s', 'echo t%d >> %s'])
+        make = make % ((n,) * (make.count('%') - 1) + (at,))
+        return '{ test -e %s || test -L %s || { %s && echo m%d && rm %s; rm -f m%d; }; }' % (at, at, make, n, at, n)
 
     def entering(self, folder, into, path):
         at = self.named(folder, into)
@@ -215,13 +223,10 @@ class Drawing:
     def compiling(self, program, folder):
         if not self.tools[program]:
             return 'cat ' + self.named(folder, self.path())
-        words, above = [program, '-E', '-P'], set()
+        words = [program, '-E', '-P']
         for by in self.lot.sample(self.folders, self.lot.randint(1, min(3, len(self.folders)))):
             words.append(self.lot.choice(['-I', '-I', '-isystem ', '-iquote ']) + self.named(folder, by))
-            above.update('/'.join(by.split('/')[:n]) for n in range(1, by.count('/') + 1))
-        words.append(self.named(folder, 'main.c'))
-        # gcc leaves out a folder that isn't there, and fails where a file is above it. So what is above has to be asked for besides.
-        return ' '.join(['test -d %s;' % os.path.relpath(it, folder or '.') for it in sorted(above)] + words)
+        return ' '.join(words + [self.named(folder, 'main.c')])
 
     def command(self, folder, inputs):
         """The steps of a command with what stands between them."""
@@ -473,10 +478,19 @@ class Place:
                 else:
                     make(self.at(path), it[0], it[1], it[2])
             self.write_rules()
+            self.close_mounts()
             return [(it, *self.plainly(it)) for it in self.rules if not it['off']]
         finally:
+            for it in reversed(self.mounted()):
+                subprocess.run(['umount', '-n', '-l', self.at(it)], check=False, stderr=subprocess.DEVNULL)
             shutil.rmtree(self.top)
             os.rename(kept, self.top)
+
+    def close_mounts(self):
+        """Lets nothing be written where another file system is mounted in the project: so it is for a command."""
+        for it in self.mounted():
+            subprocess.run(['mount', '-n', '--bind', self.at(it), self.at(it)], check=True)
+            subprocess.run(['mount', '-n', '-o', 'remount,bind,ro', self.at(it)], check=True)
 
     def plainly(self, rule):
         os.makedirs(self.at(rule['folder']), exist_ok=True)

@@ -5,17 +5,13 @@
 # keeps the folder of its stage as its working folder. Last, what a killed program left is removed, folders that let nobody in too.
 # Words: the program. It ends with 1 where something else came, and says so.
 set -u
+. "$(dirname "$0")/../lib.sh"
 tup=$(realpath "$1")
 work=$(mktemp -d)
 trap 'cd /; chmod -R u+rwx "$work"; rm -rf "$work"' EXIT
 trap 'exit 1' INT TERM
 failures=0
 all=0
-
-wrong() {
-    failures=$((failures + 1))
-    printf 'wrong: %s: %s\n' "$what" "$1"
-}
 
 # Waits for a file.
 await() {

@@ -7,6 +7,7 @@
 # sync from the moment on at which one came or went until that is durable. Words: the program, and the projects to try (none:
 # all). It ends with 1 where something else came, and says so. It takes half an hour, and is no part of the gate.
 set -u
+. "$(dirname "$0")/../lib.sh"
 tup=$(realpath "$1")
 shift
 if ! strace -o /dev/null true 2> /dev/null; then
@@ -19,11 +20,6 @@ trap 'exit 1' INT TERM
 calls=%file,%desc
 failures=0
 all=0
-
-wrong() {
-    failures=$((failures + 1))
-    printf 'wrong: %s: %s\n' "$what" "$1"
-}
 
 # The projects: each makes itself in a working folder where a project has begun, up to the update that is to be stopped. A
 # user's files have names that aren't outputs of any rule that ever stood there.
@@ -115,11 +111,12 @@ told_why() {
 }
 
 # Calls by whose failure nothing is lost: a file is closed that was only read, or is synced later by its name; a lock isn't to
-# be had; an empty folder stays; an output that may not be read is made anew. Words: the call, and what was done to it.
+# be had; an empty folder stays, or isn't noted; what is known of unchanged files isn't had; an output that may not be read is made
+# anew. Words: the call, what was done to it, and `note` where it was one of the last two kinds of notes.
 may_go_on() {
-    case $1 in
-        close | flock | rmdir) ;;
-        openat) [ "$2" = error=EACCES ] || wrong "exit 0, though this call failed" ;;
+    case $1,$3 in
+        close,* | flock,* | rmdir,* | *,note) ;;
+        openat,*) [ "$2" = error=EACCES ] || wrong "exit 0, though this call failed" ;;
         *) wrong "exit 0, though this call failed" ;;
     esac
 }
@@ -150,7 +147,7 @@ begin_again() {
 }
 
 # Stops the update of a project, or its beginning, at one call, and looks at what is left. Words: the project, the call, its
-# number, what is done to it.
+# number, what is done to it, and whether it is one of a note.
 stop() {
     rm -rf "$work/now" && cp -a "$work/project" "$work/now" && cd "$work/now" || exit 1
     what="$1, $2 number $3, $4"
@@ -163,7 +160,7 @@ stop() {
     case "$2 $4 $exit" in
         *' signal=KILL 137') ;;
         *' error='*' 7') told_why "${4#error=}" ;;
-        *' error='*' 0') may_go_on "$2" "$4" && made_all ;;
+        *' error='*' 0') may_go_on "$2" "$4" "$5" && made_all ;;
         'write error='*' 9') made_all ;;
         *) wrong "exit $exit: $(tail -1 "$work/told")" ;;
     esac
@@ -359,7 +356,10 @@ try() {
     wanted_files=$(files)
     rm -rf "$work/now" && cp -a "$work/project" "$work/now" && cd "$work/now" || exit 1
     strace -y -o "$work/trace" -e trace="$calls" "$tup" $words > /dev/null
-    awk '{ name = $0; sub(/\(.*/, "", name); count[name]++ } /"\.["\/]/ { begun = 1 } begun && name ~ /^[a-z]/ && name !~ /^mmap/ { print name, count[name] }' "$work/trace" > "$work/list"
+    awk '{ name = $0; sub(/\(.*/, "", name); count[name]++ } /"\.["\/]/ { begun = 1 } begun && name ~ /^[a-z]/ && name !~ /^mmap/ {
+        print name, count[name], /\/proc\/|^getcwd|\/\.tup\/(stamps|emptied)|"\.", AT_STATX_SYNC_AS_STAT, / || taking ? "note" : "needed"
+        if (/\/\.tup\/emptied", O_RDONLY/) taking = 1
+    }' "$work/trace" > "$work/list"
     what=$1
     [ -s "$work/list" ] || wrong "no call of the update was found"
     case $order in
@@ -368,9 +368,9 @@ try() {
     esac
     [ -z "$late" ] || wrong "$late"
     : > "$work/exits"
-    while read -r call number; do
-        for error in EIO EACCES ENOSPC; do stop "$1" "$call" "$number" "error=$error"; done
-        stop "$1" "$call" "$number" signal=KILL
+    while read -r call number use; do
+        for error in EIO EACCES ENOSPC; do stop "$1" "$call" "$number" "error=$error" "$use"; done
+        stop "$1" "$call" "$number" signal=KILL "$use"
     done < "$work/list"
     writes_of_store > "$work/writes"
     torn=0

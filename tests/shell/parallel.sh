@@ -5,17 +5,13 @@
 # program, and tup_sh (none: what needs it is passed over). And that what each command prints stands in one piece. It ends with 1
 # where something else came, and says so.
 set -u
+. "$(dirname "$0")/../lib.sh"
 tup=$(realpath "$1")
 work=$(mktemp -d)
 trap 'cd /; rm -rf "$work"' EXIT
 trap 'exit 1' INT TERM
 failures=0
 all=0
-
-wrong() {
-    failures=$((failures + 1))
-    printf 'wrong: %s: %s\n' "$what" "$1"
-}
 
 # A project of these rules in a folder of its own, whose file `a` holds `hi`. Its commands are run by the program beside it.
 begin() {

@@ -1,4 +1,4 @@
-/* A file system that doesn't tell case apart, for tests/edge.sh: put before a program's libraries (LD_PRELOAD), it lets the
+/* A file system that doesn't tell case apart, for tests/faults/edge.sh: put before a program's libraries (LD_PRELOAD), it lets the
  * calls that take a relative path find what has another spelling. What a folder lists keeps its spelling. */
 #define _GNU_SOURCE
 #include <dirent.h>

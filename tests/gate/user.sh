@@ -5,8 +5,9 @@
 # superuser (files of another user) is passed over for others, and what needs tup_sh where that isn't built in the folder beside, or
 # can't run commands here.
 set -u
+. "$(dirname "$0")/../lib.sh"
 tup=$(realpath "$1")
-version=$(sed -n 's/^const VERSION: &str = "\(.*\)";/\1/p' "$(dirname "$0")/../crates/tup/src/main.rt")
+version=$(sed -n 's/^const VERSION: &str = "\(.*\)";/\1/p' "$(dirname "$0")/../../crates/tup/src/main.rt")
 sh=$(realpath -m "$(dirname "$tup")/../../tup_sh/out/tup_sh")
 work=$(mktemp -d)
 chmod 755 "$work"
@@ -30,13 +31,6 @@ project() {
     "$tup" init > /dev/null || exit 1
 }
 
-# Compares two texts, and says which row differs.
-same() {
-    if [ "$2" = "$3" ]; then return; fi
-    failures=$((failures + 1))
-    printf 'differs: %s\n  wanted: %s\n  found:  %s\n' "$1" "$3" "$2"
-}
-
 # Runs the program with words, in the working folder: the row's name, its exit number, its lines and what standard error says,
 # each line with a semicolon behind it, the words.
 row() {
@@ -52,7 +46,6 @@ row() {
     same "$name, standard error" "$(tr '\n' ';' < "$work/said")" "$said"
 }
 
-file() { same "$1" "$(cat "$2" 2>&1)" "$3"; }
 mode() { same "$1" "$(stat -c %a "$2" 2>&1)" "$3"; }
 
 # What stands in folders, without `.` and `..`.
@@ -538,6 +531,10 @@ usage 'ibit' 1 'no such order: ibit: did you mean init?' ibit
 usage 'tdoo' 1 'no such order: tdoo: did you mean todo?' tdoo
 usage 'build' 1 'no such order: build: `tup --help` lists what there is' build
 usage '--verbos' 1 'no such option of an update: --verbos: did you mean --verbose?' --verbos
+usage '--diges' 1 'no such option of an update: --diges: did you mean --digest?' --diges
+usage '--digest twice' 2 "--digest stands there twice, or beside a word that it doesn't go with" --digest --digest
+usage 'a word behind --digest' 3 'no such option of an update: --fast: `tup --help` lists what there is' upd --digest --fast
+usage 'a word before --digest' 1 'no such option of an update: --fast: `tup --help` lists what there is' --fast --digest
 usage 'upd --keep' 2 'no such option of an update: --keep: `tup --help` lists what there is' upd --keep
 usage 'todo -k' 2 'no word may follow todo: -k' todo -k
 usage 'upd lib' 2 'only options may follow there: lib' upd lib

@@ -5,10 +5,11 @@
 - README's promises name clauses of these two functions. Each refusal of a public call has a clause.
 - Each limit of docs/USING.md is a number of the definition that its row names, and the manual has no other numbers.
 - Exit numbers and options are those of `tup --help` in USING and in the manual.
-- Each file, crate, function in a file, target of make and link that a document names is there.
+- Each file, crate, function in a file, target of make and link that a document names is there. Each target has its line of help.
 - Each definition of specs/ has a comment, and each file of rows its line in the stdout of its program.
 - docs/ARCHITECTURE.md and docs/GATE.md have each crate; docs/GLOSSARY.md has at most forty words, a line each.
-- CONTRIBUTING.md names each file of tests/. CHANGELOG.md begins with the version of the program, and so does the tag of this
+- The completions in editors/ know each option and order of `tup --help`. The picture of docs/ is as `make picture` draws it.
+- tests/README.md names each file of tests/, tools/ and bench/. CHANGELOG.md begins with the version of the program, and so does the tag of this
   commit, if it has one. README has less than 8,192 bytes.
 """
 import glob
@@ -17,12 +18,13 @@ import re
 import subprocess
 import sys
 
+import picture
 from promises import TOP, crates, definitions, functions, read
 from reach import THEOREMS as REACHED
 from reach import reached
 from refusals import calls, unnamed
 
-BOOKS = ['README.md', 'CONTRIBUTING.md'] + sorted('docs/' + name for name in os.listdir(os.path.join(TOP, 'docs')))
+BOOKS = ['README.md', 'CONTRIBUTING.md', 'tests/README.md', 'bench/RESULTS.md'] + sorted('docs/' + name for name in os.listdir(os.path.join(TOP, 'docs')))
 PAGES = [book for book in BOOKS if book.endswith('.md')]
 THEOREMS = (('tup_top', 'call.rt', 'tup'), ('tup_history', 'life.rt', 'history'))
 wrong = []
@@ -140,6 +142,10 @@ def words():
     for option in set(re.findall(r'(?<![\w-])--?[a-z][a-z-]*', told)):
         check(option in manual, 'docs/tup.1', f'nothing of {option}')
         check(option in using, 'docs/USING.md', f'nothing of {option}')
+    for completion in ('editors/bash/tup', 'editors/zsh/_tup'):
+        text = read(completion)
+        for word in set(re.findall(r'(?<![\w-])--?[a-z][a-z-]*', told)) | set(re.findall(r'^  tup ([a-z]+)', told, re.M)):
+            check(re.search(rf'(?<![\w-]){word}(?![\w-])', text), completion, f'nothing of {word}')
     exits = set(re.findall(r'\b(\d+) [a-z]', told.split('Exit numbers:')[1]))
     check(exits == {row[0] for row in table(section('docs/USING.md', '## Lines and exit numbers')) if row[0].isdigit()},
           'docs/USING.md', 'other exit numbers than --help')
@@ -173,7 +179,7 @@ def files():
             for word in quoted(paragraph):
                 if re.search('[A-Z]{4}|tup_x', word):
                     continue
-                if re.fullmatch(r'(crates|tests|docs|examples|edits)/[\w./-]*', word):
+                if re.fullmatch(r'(crates|tests|tools|bench|docs|examples|edits|editors|packaging)/[\w./-]*', word):
                     check(os.path.exists(os.path.join(TOP, word)), book, f'no {word}')
                 elif re.fullmatch(r'tup\w*/(src|specs|data|must-fail)/[\w./-]+', word):
                     check(os.path.exists(os.path.join(TOP, 'crates', word)), book, f'no {word}')
@@ -192,9 +198,9 @@ def steps():
 
 def targets():
     makefile = read('Makefile')
-    helped = set(re.findall(r"@echo 'make ([\w-]+)", makefile))
+    helped = set(re.findall(r'^([\w-]+):[^#\n]*## ', makefile, re.M))
     has = set(re.search(r'^\.PHONY: (.*)$', makefile, re.M).group(1).split())
-    for name in sorted(has - helped - {'help', 'runners'}):
+    for name in sorted(has - helped - {'runners'}):
         check(False, 'Makefile', f'make help says nothing of {name}')
     for book in PAGES:
         for name in re.findall(r'(?:`|^    )make (\w[\w-]*)', read(book), re.M):
@@ -207,14 +213,16 @@ def lists():
     for crate in crates():
         check(crate in quoted(shown), 'docs/ARCHITECTURE.md', f'{crate} is in no storey')
         check(crate in gate, 'docs/GATE.md', f'{crate} is not in the price list')
+    check(picture.main(['check']) == 0, picture.PICTURE, 'it is of other crates: make picture')
     rows = table(read('docs/GLOSSARY.md'))
     check(len(rows) <= 40, 'docs/GLOSSARY.md', f'{len(rows)} words')
     for line in read('docs/GLOSSARY.md').splitlines():
         check(len(line) <= 132 or not line.startswith('|'), 'docs/GLOSSARY.md', f'{len(line)} characters: {line[:30]}')
-    contributing = read('CONTRIBUTING.md')
-    for path in sorted(glob.glob(os.path.join(TOP, 'tests', '*'))):
-        name = os.path.basename(path)
-        check(f'{name}' in contributing or name == '__pycache__', 'CONTRIBUTING.md', f'nothing of tests/{name}')
+    told = quoted(read('tests/README.md'))
+    for folder in ('tests', 'tests/gate', 'tests/faults', 'tests/shell', 'tools', 'bench'):
+        for name in sorted(os.listdir(os.path.join(TOP, folder))):
+            is_told = {name, name + '/', f'tests/{name}/'} & set(told)
+            check(is_told or name in ('__pycache__', 'README.md', 'RESULTS.md'), 'tests/README.md', f'nothing of {folder}/{name}')
 
 
 def comments():

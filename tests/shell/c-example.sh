@@ -6,7 +6,7 @@
 set -u
 tup=$(realpath "$1")
 sh=$(realpath "$2")
-example=$(realpath "$(dirname "$0")/../examples/c")
+example=$(realpath "$(dirname "$0")/../../examples/c")
 if ! strace -o /dev/null true 2> /dev/null; then
     echo "passed over: there is no strace, or it may not trace"
     exit 0

@@ -6,6 +6,7 @@
 # of one edited source among 1,100 rules, and how long an update takes then that has nothing to do. It ends with 1 where something
 # else came, and says so.
 set -u
+. "$(dirname "$0")/../lib.sh"
 tup=$(realpath "$1")
 here=$(dirname "$(realpath "$0")")
 work=$(mktemp -d)
@@ -13,11 +14,6 @@ trap 'cd /; rm -rf "$work"' EXIT
 trap 'exit 1' INT TERM
 failures=0
 all=0
-
-wrong() {
-    failures=$((failures + 1))
-    printf 'wrong: %s: %s\n' "$what" "$1"
-}
 
 # A project with so many rules, one for each source, and all of them run. Until it is asked to, it syncs nothing.
 project() {
@@ -30,14 +26,14 @@ project() {
 
 # The bytes of the store, and how many it has once it is compacted, by the second reading of its format.
 size() { wc -c < .tup/db; }
-live() { python3 -B -c 'import sys; sys.path.insert(0, sys.argv[1]); from store import *; print(live(read(open(".tup/db", "rb").read())[0]))' "$here/model"; }
+live() { python3 -B -c 'import sys; sys.path.insert(0, sys.argv[1]); from store import *; print(live(read(open(".tup/db", "rb").read())[0]))' "$here/../model"; }
 
 # Whether each output is a copy of its source.
 is_right() { for source in *.c; do cmp -s "$source" "${source%.c}.o" || return 1; done; }
 
 # Makes the store due to be compacted: something large is put and deleted again.
 make_due() {
-    python3 -B - "$here/model" << 'END'
+    python3 -B - "$here/../model" << 'END'
 import sys
 sys.path.insert(0, sys.argv[1])
 from store import commits, live, read

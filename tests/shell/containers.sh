@@ -6,6 +6,7 @@
 # Docker; what can't be made is passed over. Words: tup and tup_sh, and a folder with a Debian of its own (none: without). It ends with 1
 # where something else came, and says so.
 set -u
+. "$(dirname "$0")/../lib.sh"
 tup=$(realpath "$1")
 sh=$(realpath "$2")
 debian=${3:-}
@@ -29,17 +30,12 @@ trap 'exit 1' INT TERM
 failures=0
 all=0
 only=${ONLY:-}
-cp "$tup" "$sh" "$work" && cp "$here/shell.sh" "$here/c-example.sh" "$work" && cp -r "$here/../examples" "$work/examples"
+cp "$tup" "$sh" "$work" && cp "$here/shell.sh" "$here/c-example.sh" "$work" && cp -r "$here/../../examples" "$work/examples"
 tup=$work/$(basename "$tup") sh=$work/$(basename "$sh")
 compiler=$(command -v gcc || command -v clang)
 [ -z "$compiler" ] || "$compiler" -o "$work/confined" "$here/confined.c" || exit 1
 user="setpriv --reuid 65534 --regid 65534 --clear-groups"
 weak="setpriv --bounding-set -sys_admin --inh-caps -sys_admin"
-
-wrong() {
-    failures=$((failures + 1))
-    printf 'wrong: %s: %s\n' "$what" "$1"
-}
 
 # way NAME COMMAND ..: whether this way can be had; `COMMAND ..` runs a program so.
 way() {
@@ -79,8 +75,7 @@ builds() {
     cd "$work" || exit 1
 }
 
-# refused NAME TEXT COMMAND ..: no command can run so. The last line of standard error says so, below what unshare or strace say
-# themselves, and the project is as it was.
+# refused NAME TEXT COMMAND ..: no command can run so. The only line of standard error says so, and the project is as it was.
 refused() {
     text=$2
     name=$1
@@ -95,7 +90,7 @@ refused() {
     timeout 100 "$@" "$tup" > "$work/made" 2> "$work/err"
     status=$?
     [ $status = 8 ] || wrong "exit number $status: $(cat "$work/made" "$work/err")"
-    tail -n 1 "$work/err" | grep -q "^tup_sh: .*$text.*\`tup_sh --check\` says how" || wrong "it said: $(cat "$work/err")"
+    grep -q "^tup_sh: .*$text.*\`tup_sh --check\` says how" "$work/err" && [ "$(wc -l < "$work/err")" = 1 ] || wrong "it said: $(cat "$work/err")"
     [ "$(ls)" = "$(printf 'Tupfile\na')" ] && [ "$(cat a)" = a ] || wrong "there is $(ls | tr '\n' ' ')"
     printf '%s: refused: %s\n' "$what" "$(tail -n 1 "$work/err")"
     place=

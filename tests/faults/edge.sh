@@ -5,6 +5,7 @@
 # tell case apart would do, that a second update looks at nothing, and streams and limits that a user's shell may take away. Where calls are traced
 # the update has one runner. Word: the program. It ends with 1 where something else came. It is no part of the gate.
 set -u
+. "$(dirname "$0")/../lib.sh"
 tup=$(realpath "$1")
 tests=$(realpath "$(dirname "$0")")
 if ! strace -o /dev/null true 2> /dev/null; then
@@ -28,12 +29,6 @@ project() {
     "$tup" init > /dev/null || exit 1
 }
 
-same() {
-    if [ "$2" = "$3" ]; then return; fi
-    failures=$((failures + 1))
-    printf 'differs: %s\n  wanted: %s\n  found:  %s\n' "$1" "$3" "$2"
-}
-
 copy=': a |> cp a b |> b'
 
 # The last line of the next update: how far the one before it came is free, so what it reads and runs isn't told.
@@ -42,7 +37,7 @@ done_then='done: .. read, .. run, 0 removed'
 
 # An update once more, in which one call is refused for want of memory: it ends with 7 and the reason; what only reads may
 # end with 12, as the system then changed nothing, and what prints with 9. Closing a file that was read or synced is nothing, and
-# where a call of what is known of unchanged files fails, all files are read.
+# where a call of what is known of unchanged files fails, all files are read; one of the note of emptied folders changes nothing.
 once_more() {
     project "$copy"
     "$tup" > /dev/null
@@ -52,7 +47,7 @@ once_more
 strace -y -o "$work/trace" "$tup" -j 1 > /dev/null
 awk '{ name = $0; sub(/\(.*/, "", name); count[name]++ } /"\.["\/]/ { begun = 1 }
     begun && name ~ /^[a-z]/ && name !~ /^mmap|^exit/ {
-        print name, count[name], /\/proc\/|^getcwd|\/\.tup\/stamps|"\.", AT_STATX_SYNC_AS_STAT, / ? "stamps" : "needed"
+        print name, count[name], /\/proc\/|^getcwd|\/\.tup\/(stamps|emptied)|"\.", AT_STATX_SYNC_AS_STAT, / ? "stamps" : "needed"
     }' "$work/trace" > "$work/list"
 while read -r call number use; do
     what="$call number $number without memory"

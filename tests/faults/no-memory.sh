@@ -6,6 +6,7 @@
 # 20; 1 takes some minutes). It ends with 1 where something else came, and says so. It needs a C compiler, and is no part of
 # the gate.
 set -u
+. "$(dirname "$0")/../lib.sh"
 tup=$(realpath "$1")
 first=${2:-1}
 step=${3:-20}
@@ -22,11 +23,6 @@ if ! cc -shared -fPIC -O1 -o "$work/no-memory.so" "$here/no-memory.c" 2> /dev/nu
     echo "passed over: there is no C compiler"
     exit 0
 fi
-
-wrong() {
-    failures=$((failures + 1))
-    printf 'wrong: %s: %s\n' "$what" "$1"
-}
 
 # All files but the program's own, with their contents.
 files() { find . -path ./.tup -prune -o -type f -print | sort | while read -r file; do printf '%s: ' "$file"; cat "$file"; done; }
