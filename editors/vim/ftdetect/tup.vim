@@ -1,0 +1,2 @@
+autocmd BufNewFile,BufRead Tupfile,*.tup setfiletype tup
+autocmd BufNewFile,BufRead *.antt setfiletype antt

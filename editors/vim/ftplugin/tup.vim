@@ -1,0 +1,2 @@
+setlocal comments=:# commentstring=#\ %s
+setlocal iskeyword+=!

@@ -1,0 +1,2 @@
+#include "size.h"
+main
