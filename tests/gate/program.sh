@@ -59,10 +59,11 @@ row() {
 # What the last row said on standard error: the place, and the system's words.
 said() { same "$name, standard error" "$(cat "$work/said")" "tup: $1"; }
 
-# What it said of a store that doesn't begin as one: what is to be done where an early version made it.
+# What it said of a store that doesn't begin as one: what is to be done where an early version or another program made it.
 said_of_store() {
     case "$(head -c 8 .tup/db | od -An -c | tr -d ' ')" in
         'tup-db\n001') said '.tup/db is of an early version: remove it and the files that were made, then `tup init` begins anew' ;;
+        SQLitef) said '.tup/db is of another tup (SQLite): move .tup away' ;;
         *) same "$name, standard error" "$(cat "$work/said")" "" ;;
     esac
 }
@@ -725,6 +726,7 @@ damaged() {
 damaged "the list of an old version" 0 'b\nc\n'
 damaged "a store of an early version" 0 'tup-db\n\001\000'
 damaged "another version of the store" 0 'tup-db2\002\000\000\000\000\000\000\000\000\000\000'
+damaged "the store of another program of this name" 0 'SQLite format 3\000\020\000\001\001\000'
 damaged "half a head" 0 'tup-d'
 damaged "a commit that is cut off" 17 'tup-db2\001\000\000\000\000\000\000\000\000\000\001\000\000'
 damaged "a record of no kind" 17 'tup-db2\001\000\000\000\000\000\000\000\000\000\001\000\000\000\011\001\000\001\153\000\000\000\001\166\000'

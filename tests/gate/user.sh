@@ -312,6 +312,27 @@ folder "$copy"
 echo '[updater]' > Tupfile.ini
 row "a Tupfile.ini of other words" 2 '' 'tup: Tupfile.ini: unknown word [updater];' upd
 same "nothing was made" "$(names .)" 'Tupfile Tupfile.ini a '
+
+# A project of Debian's other tup, which keeps an SQLite file at the same place.
+folder "$copy"
+mkdir .tup && printf 'SQLite format 3\000\020\000' > .tup/db
+damaged='fault: the store is damaged at byte 0;'
+other='is of another tup (SQLite): move .tup away;'
+row "a project of another tup" 4 "$damaged" "tup: .tup/db $other"
+row "it isn't begun" 4 "$damaged" "tup: .tup/db $other" init
+row "it isn't given options" 4 "$damaged" "tup: .tup/db $other" init --proc "$work/one"
+row "what it made isn't known" 4 "$damaged" "tup: .tup/db $other" outputs
+row "nor removed" 4 "$damaged" "tup: .tup/db $other" clean
+same "nothing was written" "$(names .tup) $(od -An -c .tup/db | tr -d ' \n')" 'db  SQLiteformat3\0020\0'
+echo '[updater]' > .tup/options
+mkdir sub && cd sub || exit 1
+row "it has options" 2 '' "tup: ../.tup/options: unknown word [updater];tup: ../.tup/db $other"
+cd ..
+row "they stay as they are" 4 "$damaged" "tup: .tup/db $other" init --proc "$work/one"
+file "those of before" .tup/options '[updater]'
+mv .tup away
+row "it is moved away" 0 'initialized;' '' init
+row "the files are built" 0 "$made" ''
 folder "$copy"
 mkdir Tupfile.ini
 row "a folder of that name" 3 "$none" "$init_here"

@@ -1,15 +1,11 @@
 //! What standard error says beside the last line of an order.
 
+use crate::makers;
 use crate::top::{Top, is_named_in_text};
 use std::alloc::{AllocError, Global};
-use std::fs::File;
-use std::os::unix::fs::FileExt;
 use tup_mini::words;
 use tup_path::Text;
 use tup_top::Status;
-
-/// The store of a project.
-const STORE: &str = ".tup/db";
 
 /// The status of a command of a name that isn't known.
 const UNKNOWN: u8 = 127;
@@ -30,30 +26,11 @@ pub(crate) fn begin(rt: HostRuntime, top: &Top, status: &Status) {
     }
 }
 
-/// The first bytes of the stores of early versions.
-const EARLY: [u8; 8] = *b"tup-db\n\x01";
-
-/// What is to be done where an early version made the store.
+/// What is to be done where another program or an early version made the store.
 pub(crate) fn begin_anew(rt: HostRuntime, alloc: Global, top: &Top, status: &Status) {
     if let Status::BadStore { offset: 0 } = status {
-        if let Ok(store) = top.place(alloc, STORE) {
-            if is_early(rt, store.as_str()) {
-                // Words that can't be printed change nothing: the exit number tells as much.
-                drop(eprintln!(rt;
-                    "tup: {store} is of an early version: remove it and the files that were made, then `tup init` begins anew"
-                ));
-            }
-        }
+        makers::name_maker(rt, alloc, top);
     }
-}
-
-/// Whether an early version made the store at a place.
-fn is_early(rt: HostRuntime, store: &str) -> bool {
-    let Ok(file) = File::open(&rt, store) else {
-        return false;
-    };
-    let mut first = [0; 8];
-    matches!(file.read_exact_at(&mut first, 0), Ok(())) && first == EARLY
 }
 
 /// What is to be done where a command isn't one of the built-in commands. The words say what runs

@@ -18,7 +18,7 @@ pub(crate) fn list(rt: HostRuntime, alloc: Global, top: &Top) -> u8 {
     };
     match listed(alloc, &mut site) {
         Ok(text) => shown(print!(rt; "{text}")),
-        Err(status) => failed(rt, top, &site, status),
+        Err(status) => failed(rt, alloc, top, &site, status),
     }
 }
 
@@ -39,17 +39,24 @@ pub(crate) fn clean(rt: HostRuntime, alloc: Global, top: &Top, syncs: Syncs) -> 
             };
             shown(print!(rt; "{text}{status}\n"))
         }
-        Err(status) => failed(rt, top, &site, status),
+        Err(status) => failed(rt, alloc, top, &site, status),
     }
 }
 
 /// Prints why it wasn't done; gives the exit number.
-fn failed(rt: HostRuntime, top: &Top, site: &FsSite<HostRuntime>, status: Status) -> u8 {
+fn failed(
+    rt: HostRuntime,
+    alloc: Global,
+    top: &Top,
+    site: &FsSite<HostRuntime>,
+    status: Status,
+) -> u8 {
     if let Some(failure) = site.last() {
         // Words that can't be printed change nothing: the exit number tells as much.
         drop(eprintln!(rt; "tup: {failure}"));
     }
     hint::begin(rt, top, &status);
+    hint::begin_anew(rt, alloc, top, &status);
     told(&rt, status)
 }
 

@@ -12,6 +12,7 @@ mod digest;
 mod error_log;
 mod hint;
 mod made;
+mod makers;
 mod option_files;
 mod options;
 mod output;

@@ -5,7 +5,7 @@
 use crate::options::{Fault, Options};
 use crate::own::Own;
 use crate::top::{SHARED_OPTIONS, Top};
-use crate::{shown, told};
+use crate::{makers, shown, told};
 use std::alloc::{AllocError, Global};
 use std::fs;
 use std::io::ErrorKind;
@@ -32,10 +32,21 @@ fn read_own(rt: HostRuntime, alloc: Global, top: &Top) -> Result<Options, u8> {
     let Ok(own) = Own::of(rt, alloc, top, Syncs::Done) else {
         return Err(told(&rt, Status::Memory));
     };
-    match own.has_options() {
+    let read = match own.has_options() {
         Ok(true) => read_file(rt, alloc, top, own.options.as_str()),
         Ok(false) => Ok(Options::none()),
         Err(refused) => Err(failed(rt, refused)),
+    };
+    if read.is_err() {
+        name_maker(rt, alloc, top, &own);
+    }
+    read
+}
+
+/// Says who else made the store, if there is one: the options may be those of that program, which keeps them at the same place.
+fn name_maker(rt: HostRuntime, alloc: Global, top: &Top, own: &Own) {
+    if let Ok(true) = own.has_store() {
+        makers::name_maker(rt, alloc, top);
     }
 }
 
@@ -163,13 +174,17 @@ pub(crate) fn begin(
     }
 }
 
-/// Writes the options of a project, if there are any; returns whether it had begun and they were written.
+/// Writes the options of a project, if there are any; returns whether it had begun and they were written. Where another program or
+/// an early version made the store, nothing is written.
 fn put(rt: HostRuntime, alloc: Global, own: &Own, words: &[Word]) -> Result<bool, Refused> {
     let has_begun = own.has_store()?;
     if words.is_empty() {
         if !has_begun {
             own.make()?;
         }
+        return Ok(false);
+    }
+    if has_begun && makers::maker_at(rt, own.store.as_str()).is_some() {
         return Ok(false);
     }
     let text = lines(alloc, words)?;

@@ -18,7 +18,7 @@ const ALL_IGNORED: &str = "*\n";
 pub(crate) struct Own {
     disk: Disk<HostRuntime>,
     folder: String,
-    store: String,
+    pub(crate) store: String,
     pub(crate) options: String,
     /// New options, till they are durable and come to their place.
     aside: String,
