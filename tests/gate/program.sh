@@ -855,7 +855,7 @@ line() {
 line "a shell's arrow in place of the rule's" ': a > b' 'a rule has two arrows'
 line "a rule of make" 'b: a' 'unknown line'
 line "a byte order mark" "$(printf '\357\273\277: a |> cp a b |> b')" 'unknown line'
-line "an output in a folder" ': a |> cp a sub/b |> sub/b' 'output stands elsewhere'
+line "an output below a source" ': a |> cp a a/b |> a/b' 'output stands below a file'
 line "an output above the project" ': a |> cp a ../b |> ../b' 'output stands elsewhere'
 line "the Tupfile as an output" ': a |> cp a Tupfile |> Tupfile' 'output stands elsewhere'
 line "a comment behind a rule" "$copy # a copy" 'output is a source file'

@@ -483,13 +483,15 @@ printf '%s\n' ': foreach *.c |> cp %f %o |> %B.o' ': a.o $(NOT)/x |> cat %f > %o
 row "one leads elsewhere" 5 'fault: app/Tupfile:2: missing input, read for app;' 'app/Tupfile:2: missing input: : a.o $(NOT)/x |> cat %f > %o |> app;'
 project ': b |> cp b c |> c' "$copy"
 row "a rule above the one that makes its input" 5 'fault: Tupfile:1: missing input, read for .;' 'Tupfile:1: b: no source, and no rule above makes it;'
+project ': obj/b |> cp %f %o |> c' ': a |> cp %f %o |> obj/b'
+row "one that makes it in a folder below" 5 'fault: Tupfile:1: missing input, read for .;' 'Tupfile:1: obj/b: no source, and no rule above makes it;'
 # A folder that was renamed, with what was made in it: each output that stands in the way is named.
 folder
 mkdir lib && touch lib/1.c lib/2.c && echo ': foreach *.c |> cp %f %o |> %B.o' > lib/Tupfile && echo ': lib/1.o |> cp %f %o |> x' > Tupfile
 "$tup" init > /dev/null && "$tup" > /dev/null
 mv lib lib2
 there="it is there, and tup didn't make it: remove it, or keep it and drop the rule;"
-row "a folder was renamed" 5 'fault: Tupfile:1: missing input, read for .;' 'Tupfile:1: lib/1.o: no source, and no rule makes it;'
+row "a folder was renamed" 5 'fault: Tupfile:1: missing input, read for .;' 'Tupfile:1: lib/1.o: no source, and no rule above makes it;'
 sed -i s/lib/lib2/ Tupfile
 row "its outputs stand in the way" 5 'fault: lib2/Tupfile:1: output is a source file, read for lib2;' "lib2/Tupfile:1: lib2/1.o: ${there}lib2/Tupfile:1: lib2/2.o: $there"
 rm lib2/1.o
@@ -511,6 +513,7 @@ at_line "a percent flag that there isn't" ': |> echo %q > p |> p' 'unknown perce
 at_line "a fault of the user's own" 'error no compiler' 'error: no compiler' 'error: no compiler'
 at_line "a macro that isn't there" ': |> !cc |>' 'no such macro' 'no macro of this name is defined above: : |> !cc |>'
 at_line "an output elsewhere" ': |> echo 1 > ../o |> ../o' 'output stands elsewhere' "tup may make no file there: : |> echo 1 > ../o |> ../o"
+at_line "an output below a file" ': |> echo 1 > Tupfile/o |> Tupfile/o' 'output stands below a file' "a file or another output is where one of its folders has to be, or an output is below it: : |> echo 1 > Tupfile/o |> Tupfile/o"
 printf '%s\n' ': |> echo 1 > o1 |> o1' ': |> echo 2 > o1 |> o1' > d/Tupfile
 row "an output of two rules" 5 'fault: d/Tupfile:2: output named twice, read for d;' 'd/Tupfile:2: this rule, or one above, makes this output already: : |> echo 2 > o1 |> o1;'
 printf '\377\n' > d/Tupfile

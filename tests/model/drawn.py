@@ -1,13 +1,15 @@
 """Tupfiles and commands drawn by lot: of each form of the language some that are right and some that aren't."""
 
 SOURCES = ['a.c', 'b.c', 'h.h', 'd/e.x', 'd/f.c', 'ab.c', 'a.b.c', 'é.c', 'x_y.t', 'mk']
-OUTPUTS = ['o', 'p', 'q', 'r.o', 's.tar.gz', 't_u.c', 'z.o', 'm', 'n', 'k.c', './v', 'd/../w', 'é.o']
-SHOWN = ['%B.o', '%b.o', '%g.z', '%B-%e', '%d.o', '%O.d', '%b', '%B_1', '%%x', '%f.o']
+OUTPUTS = ['o', 'p', 'q', 'r.o', 's.tar.gz', 't_u.c', 'z.o', 'm', 'n', 'k.c', './v', 'd/../w', 'é.o',
+           'w/o', 'w/s/p.o', 'd/g.o']
+SHOWN = ['%B.o', '%b.o', '%g.z', '%B-%e', '%d.o', '%O.d', '%b', '%B_1', '%%x', '%f.o', 'w/%B.o', 'd/s/%b']
 GLOBS = ['*', '*.c', '?.c', '[ab].c', '[^a].c', '*.[ch]', 'd/*', '*_*.?', 'd/*.x', './*.c', '[]a]*', '*b*', '[a-b]*.c',
-         '*.*.*', '??', '*.o', '[!-~]*', '*é*', '[d-e-]*']
+         '*.*.*', '??', '*.o', '[!-~]*', '*é*', '[d-e-]*', 'w/*', 'd/*.o', 'w/s/*']
 OPEN_GLOBS = ['[', '[a', 'a[^', 'd/[]', '*[']
 WRONG_WORDS = ['../x', '/a.c', '.h', 'd', 'd/', 'none', 'd/none', 'a%', '%q', '%f', 'a.c%%', '', '^x', '{', '{}', '<',
-               '<>', 'd/<', 'x}', '..', '.', 'é/', 'tup.config', 'Tuprules.tup', 'Tupfile', 'a b']
+               '<>', 'd/<', 'x}', '..', '.', 'é/', 'tup.config', 'Tuprules.tup', 'Tupfile', 'a b',
+               'a.c/o', 'w/Tupfile', 'w/o/p']
 FLAGS = ['%f', '%b', '%B', '%e', '%o', '%O', '%d', '%g', '%i', '%%']
 WRONG_FLAGS = ['%<x>', '%<y>', '%<z>', '%q', '%', '%<', '%<x', '%.']
 NAMES = ['A', 'B', 'C', 'D_1', 'CFLAGS']

@@ -528,16 +528,33 @@ class Reading:
         outputs = list(before)
         for word in some:
             path = resolve(self.folder, b''.join(flagged(word, place, given)))
-            if (path is None or path[:-1] != self.folder or len(path) != len(self.folder) + 1
-                    or path[-1] in (b'Tupfile', b'Tuprules.tup') or path == (b'tup.config',)):
+            if path is None or not is_below(self.folder, path) or is_reserved(path):
                 raise Wrong('output stands elsewhere')
+            taken = outputs + self.made()
+            blocked = any([self.is_blocked(path[:end], taken) for end in range(len(self.folder) + 1, len(path))])
             kind = self.sources.kind(self.folder, path)
-            if path in outputs or path in self.made():
+            if path in taken:
                 raise Wrong('output named twice')
             if kind != 'nothing':
                 raise Wrong('output is a source file' if kind == 'file' else 'output is a directory')
+            if blocked or any(is_below(path, other) for other in taken):
+                raise Wrong('output stands below a file')
             outputs.append(path)
         return outputs
+
+    def is_blocked(self, folder, taken):
+        """Whether a file or an output is where a folder on the way to an output has to be."""
+        if self.sources.kind(self.folder, folder + (b'Tupfile',)) == 'file':
+            raise Wrong('output stands elsewhere')
+        return self.sources.kind(self.folder, folder) == 'file' or folder in taken
+
+
+def is_below(folder, path):
+    return len(path) > len(folder) and path[:len(folder)] == folder
+
+
+def is_reserved(path):
+    return path[-1] in (b'Tupfile', b'Tuprules.tup') or path == (b'tup.config',)
 
 
 def check_free(name):
@@ -624,12 +641,18 @@ class Project(Sources):
     def answer(self, kind, *words):
         return sorted(self.names(*words)) if kind == 'names' else getattr(self, kind)(*words)
 
+    def home(self, folder):
+        """The nearest folder at or above this one that has a Tupfile: its reading makes the files here."""
+        above = [folder[:depth] for depth in range(len(folder), -1, -1)]
+        return next((dir for dir in above if dir + (b'Tupfile',) in self.files), None)
+
     def made_in(self, reader, folder):
-        if folder == reader or folder + (b'Tupfile',) not in self.files:
+        home = self.home(folder)
+        if home in (None, reader):
             return []
-        if folder not in self.readings:
-            raise Awaits(folder)
-        return [path for draft in self.readings[folder] for path in draft['outputs']]
+        if home not in self.readings:
+            raise Awaits(home)
+        return [path for draft in self.readings[home] for path in draft['outputs']]
 
     def names(self, reader, folder):
         made = self.made_in(reader, folder)

@@ -7,12 +7,14 @@ from random_rows import path_of, row, way_up
 
 FILES = ['a.c', 'b.c', 'h.h', 'lib/l.c', 'lib/m.h', 'src/m.c', 'src/n.c', 'lib/x/y.c', 'k']
 FOLDERS = ['', 'lib', 'src', 'lib/x']
+# folders of outputs, in which a Tupfile seldom comes and goes
+MADE = ['obj', 'lib/gen']
 CONTENTS = [b'', b'int a;\n', b'#include "h.h"\nx\n', b'#include "../h.h"\ny\n', b'1', b'#include "k"\n',
             b'#include "../lib/m.h"\n#include "../h.h"\nz', b'#include "l.o"\n', b'q\n#include "none"\n']
-GLOBS = ['*.o', '*.c', '*.h', 'lib/*.o', '../*.o', '../lib/*.c', 'src/*.o']
-LOOKED_FOR = ['k', 'h.h', '../k', 'none', 'o1', 'l.o', '%o', 'x', '../x', 'lib', '../lib', 'src', '../src']
-OUTPUTS = ['o1', 'o2', 'p.o', 'all', 'x.o', 'g.h', 'log']
-IN_THE_WAY = ['o1/z', 'lib/o2', 'src/all/q', 'x.o', 'none/y/z']
+GLOBS = ['*.o', '*.c', '*.h', 'lib/*.o', '../*.o', '../lib/*.c', 'src/*.o', 'obj/*.o', '../obj/*', 'gen/*.h', 'src/*.c']
+LOOKED_FOR = ['k', 'h.h', '../k', 'none', 'o1', 'l.o', '%o', 'x', '../x', 'lib', '../lib', 'src', '../src', 'obj', 'obj/p.o']
+OUTPUTS = ['o1', 'o2', 'p.o', 'all', 'x.o', 'g.h', 'log'] * 2 + ['obj/o1', 'obj/p.o', 'gen/g.h', 'obj/s/x.o', 'src/q.o', 'x/o2', 'obj', 'o1/y']
+IN_THE_WAY = ['o1/z', 'lib/o2', 'src/all/q', 'x.o', 'none/y/z', 'obj', 'obj/o1/z', 'obj/h', 'gen', 'lib/gen/h']
 CONFIGS = [b'CONFIG_S=1\n', b'CONFIG_S=two\n', b'# CONFIG_S is not set\n', b'', b'S=1\n']
 SHARED = [b'!m = |> ^ M %f^ cp %f %o |> m.o\n', b'V = $(TUP_CWD)/v\n', b'V = r\n!m = | h.h |> incl %f %o |> %B.m\n']
 COMMANDS = ['cat a.c h.h > %o', 'cp k %o', 'cp o1 %o', 'cat o1 o2 > %o', 'cp UPlib/l.o %o',
@@ -48,11 +50,11 @@ def tupfile_rule(drawn, up):
     one_of = drawn.one_of
     out, gift = one_of(OUTPUTS), one_of(['', ' {b}', ' %s<g>' % up])
     forms = [
-        (22, 'foreach *.c%s |> %s %%f %%o |> %%B.o%s' % (one_of(['', '', ' | %sh.h' % up, ' | %s<g>' % up]),
-                                                        one_of(['cp', 'incl', 'incl']), gift)),
+        (22, 'foreach %s%s |> %s %%f %%o |> %s%%B.o%s' % (one_of(['*.c', '*.c', '*.c', 'src/*.c']), one_of(['', '', ' | %sh.h' % up, ' | %s<g>' % up]),
+                                                          one_of(['cp', 'incl', 'incl']), one_of(['', '', '', 'obj/', 'obj/s/']), gift)),
         (12, '{b} |> cat %f > %o |> ' + out),
         (10, up + '<g> |> ^ JOIN %o^ cat %<g> > %o |> ' + out),
-        (10, one_of(GLOBS) + ' |> cat %f > %o |> ' + out + gift),
+        (12, one_of(GLOBS) + ' |> cat %f > %o |> ' + out + gift),
         (8, '|> echo ' + one_of(['@(S)', '$(V)', 'x y', '%o', '%d', '$(TUP_CWD)']) + ' > %o |> ' + out + gift),
         (6, '|> ifexists %s %s %%o |> %s%s' % (one_of(LOOKED_FOR),
                                               one_of(['a.c', 'h.h', 'k', 'l.c', 'm.c']), out, gift)),
@@ -83,8 +85,8 @@ class Player:
             self.write((b'tup.config',), self.lot.choice(CONFIGS[:4]))
         if self.drawn.is_drawn(.4):
             self.write((b'Tuprules.tup',), self.lot.choice(SHARED))
-        for folder in FOLDERS:
-            if self.drawn.is_drawn(.6):
+        for folder in FOLDERS + MADE:
+            if self.drawn.is_drawn(.08 if folder in MADE else .6):
                 self.write_tupfile(folder)
 
     def write(self, path, content):
@@ -134,7 +136,7 @@ class Player:
         elif drawn < .55 and self.world.tree:
             self.delete(self.lot.choice(sorted(self.world.tree)))
         elif drawn < .8:
-            self.write_tupfile(self.lot.choice(FOLDERS))
+            self.write_tupfile(self.lot.choice(FOLDERS * 2 + MADE))
         elif drawn < .9 and owned:
             path = self.lot.choice(owned)
             self.write(path, b'mine\n')

@@ -108,7 +108,7 @@ CONFIGS = [b'CONFIG_A=1', b'CONFIG_A=../b\n# CONFIG_B is not set', b'\n\nbad', b
 OTHERS = ['ifdef A\n: |> one |> one\nendif', 'ifeq (@(A),1)\nelse\n: |> two |> two\nendif', 'nonsense', 'A = 1',
           'include_rules']
 COMMANDS = ['c %f', 'c %<g>', 'c %f %<h>', 'c %o', 'one', '!m', 'c %i', '^ T^ d %b', 'c $(INC) $(V)', 'c @(A)', 'e %B']
-OUTPUTS = ['p.o', 'q.o', '%B.o', 'r.o', 'p.o q.o', '', 'p.o | q.x', '%B.o | %B.d', 's', 'a', 'z.h', 't.o']
+OUTPUTS = ['p.o', 'q.o', '%B.o', 'r.o', 'p.o q.o', '', 'p.o | q.x', '%B.o | %B.d', 's', 'a', 'z.h', 't.o', 'w/v.o', 'w/%B.o', 's/u.o', 'w/k/p.o']
 
 
 def project_words(files):
@@ -139,7 +139,7 @@ def project_line(drawn, folder):
     def word():
         other = one_of(FOLDERS)
         there = up + (other + '/' if other else '')
-        far = ['*.o', 'p.o', '*.c', '<g>', '<h>', 'q.o', 'y.c', '*', 'z.h', '']
+        far = ['*.o', 'p.o', '*.c', '<g>', '<h>', 'q.o', 'y.c', '*', 'z.h', '', 'w/*.o', 'w/v.o', 's/u.o']
         return one_of([there + name for name in far] + ['*.c', '*', 'x.c', 'y.c', '{b}'])
     if drawn.is_drawn(.08):
         return one_of(OTHERS)

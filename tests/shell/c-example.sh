@@ -29,7 +29,7 @@ wrong() {
 
 # What stands in the project, hidden names too, but for what was made and what tup keeps: kinds, modes, names, contents.
 sources() {
-    find . \( -name .tup -prune \) -o \( -name '*.o' -o -name '*.a' -o -name greet -o -name version.h -o -name size.h -o -name made \) -prune \
+    find . \( -name .tup -prune \) -o \( -name obj -o -name '*.o' -o -name '*.a' -o -name greet -o -name version.h -o -name size.h -o -name made \) -prune \
         -o -printf '%y %m %p %l\n' -type f -exec sha256sum {} + | sort
 }
 
@@ -58,7 +58,7 @@ told() {
     grep -q "$1" "$work/err" || wrong "it didn't say: $1"
 }
 
-compile='cc -Wall -I../lib -c main.c -o main.o'
+compile='cc -Wall -I../lib -c main.c -o obj/main.o'
 cp -r "$example" "$work/project" && cd "$work/project" && "$tup" init > /dev/null || exit 1
 update 'as it is' 0 'done: 2 read, 6 run, 0 removed'
 greets 'Hello from version 1.2'

@@ -78,7 +78,7 @@ fn print_named(
 ) -> Result<(), AllocError> {
     let Culprit { file, line, path } = culprit;
     let why = match &fault.kind {
-        ParseKind::MissingInput if is_in(&fault.dir, path) => {
+        ParseKind::MissingInput if path.is_below(&fault.dir) => {
             "no source, and no rule above makes it"
         }
         ParseKind::MissingInput => "no source, and no rule makes it",
@@ -90,14 +90,6 @@ fn print_named(
     // Words that can't be printed change nothing: the exit number tells as much.
     drop(eprintln!(rt; "{file}:{line}: {path}: {why}"));
     Ok(())
-}
-
-/// Whether a path is in a folder: the rules of its Tupfile make it, or none do.
-fn is_in(dir: &Path, path: &Path) -> bool {
-    match path.names().split_last() {
-        Some((_, above)) => above == dir.names(),
-        None => false,
-    }
 }
 
 /// Prints the line of a fault.
@@ -157,6 +149,9 @@ fn why(kind: &ParseKind, text: &str) -> Option<&'static str> {
         ),
         ParseKind::DuplicateOutput => Some("this rule, or one above, makes this output already"),
         ParseKind::ForeignOutput => Some("tup may make no file there"),
+        ParseKind::OutputBelowFile => Some(
+            "a file or another output is where one of its folders has to be, or an output is below it",
+        ),
         ParseKind::UnknownFlag => Some(
             "there is no such percent flag; a percent sign is written %%",
         ),

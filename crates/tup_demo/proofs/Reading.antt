@@ -33,7 +33,7 @@ use Rattle.tup_vars.specs.Config.{config_of, settings}
 use Rattle.tup_query.specs.declared.fault.ParseFault.{ParseFault}
 use Rattle.tup_query.specs.Reads.{Reads, gives}
 use Rattle.tup_query.specs.Spot.{refused, spot}
-use Rattle.tup_rule_line.specs.State.{fresh}
+use Rattle.tup_rule_line.specs.State.{fresh, is_made}
 use Rattle.tup_rule_line.specs.Words.{lex_kind}
 use Rattle.tup_tupfile.specs.File.{fault_line}
 use Rattle.tup_tupfile.specs.Opening.{along}
@@ -41,9 +41,9 @@ use Rattle.tup_vars.specs.declared.fault.ConfigFault.{ConfigFault}
 use Rattle.tup_vars.specs.Table.{Entries}
 use Rattle.tup_query.specs.Key.{same_question-true}
 use Rattle.tup_query.specs.Log.{Log, Ran, noted_log, same_question, told_before}
-use Rattle.tup_readings.specs.Answers.{Readings, answer, awaited, made_kind, unread}
+use Rattle.tup_readings.specs.Answers.{Readings, answer, awaited, made_kind, other_drafts, unread}
 use Rattle.tup_readings.specs.Readings.{IsAnswered, AreReadings, AreAllReadings, AreReadWith, IsOutcome}
-use Rattle.tup_readings.specs.Sources.{has_below, has_tupfile, settings_of as config_in}
+use Rattle.tup_readings.specs.Sources.{has_below, has_tupfile, home, settings_of as config_in}
 use Rattle.tup_link.specs.Circle.{NoneWaitsForItself}
 use Rattle.tup_link.specs.Faults.{early_fault}
 use Rattle.tup_link.specs.Groups.{members}
@@ -61,7 +61,7 @@ use Rattle.tup_rule_line.specs.Glob.{names_of_files, glob_of, matched_in, globbe
 use Rattle.tup_rule_line.specs.Input.{literal, from_bin, from_group, from_files, from_other, from_word, from_words}
 use Rattle.tup_rule_line.specs.Job.{with_carets, shown, spoken, with_text, with_extra, with_outputs, drafted, with_job, with_jobs}
 use Rattle.tup_rule_line.specs.MacroLine.{only_body, named_body, body_in, one_more, with_body, defined}
-use Rattle.tup_rule_line.specs.Output.{known_output, from_output, from_outputs}
+use Rattle.tup_rule_line.specs.Output.{is_blocked, is_way_blocked, known_output, from_output, from_outputs}
 use Rattle.tup_rule_line.specs.RuleLine.{given_to, plan_of, planned, with_words, words_in, ruled}
 use Rattle.tup_rule_line.specs.Words.{cut, with_named, with_macro, words_of}
 use Rattle.tup_tupfile.specs.Conditional.{compared, compares, looked_up}
@@ -119,11 +119,11 @@ abbrev first_told : Log
 first_told = (query.Content (codes "Tupfile" ∷ []), told.Content (Some demo_tupfile)) ∷ []
 
 ran_on : Ran first_told (goes_on (said (joined_lines demo_tupfile))) demo_log (Ok (demo_draft ∷ []))
-unfolding matches_from asks settings_of and_then taken expanded flagged_text names_of_files glob_of matched_in globbed literal from_bin from_group from_files from_other from_word from_words with_carets shown spoken with_text with_extra with_outputs drafted with_job with_jobs only_body named_body body_in one_more with_body defined known_output from_output from_outputs given_to plan_of planned with_words words_in ruled cut with_named with_macro words_of compared compares looked_up held_at held_in named_file included_file lines_of ended at_levels opening opened included ruled_by ruled_below ruled_down complained stated plain_line with_kind with_lines with_file with_room opener_of drafts_in reading with_value value_of assigned
+unfolding matches_from asks settings_of and_then taken expanded flagged_text names_of_files glob_of matched_in globbed literal from_bin from_group from_files from_other from_word from_words with_carets shown spoken with_text with_extra with_outputs drafted with_job with_jobs only_body named_body body_in one_more with_body defined is_blocked is_way_blocked known_output from_output from_outputs given_to plan_of planned with_words words_in ruled cut with_named with_macro words_of compared compares looked_up held_at held_in named_file included_file lines_of ended at_levels opening opened included ruled_by ruled_below ruled_down complained stated plain_line with_kind with_lines with_file with_room opener_of drafts_in reading with_value value_of assigned
 ran_on = (told.Kind File, refl, (told.Kind Nothing, refl, (refl, refl)))
 
 demo_ran : Ran [] (reading []) demo_log (Ok (demo_draft ∷ []))
-unfolding asks settings_of and_then taken expanded flagged_text names_of_files glob_of matched_in globbed literal from_bin from_group from_files from_other from_word from_words with_carets shown spoken with_text with_extra with_outputs drafted with_job with_jobs only_body named_body body_in one_more with_body defined known_output from_output from_outputs given_to plan_of planned with_words words_in ruled cut with_named with_macro words_of compared compares looked_up held_at held_in named_file included_file lines_of ended at_levels opening opened included ruled_by ruled_below ruled_down complained stated plain_line with_kind with_lines with_file with_room opener_of drafts_in reading with_value value_of assigned
+unfolding asks settings_of and_then taken expanded flagged_text names_of_files glob_of matched_in globbed literal from_bin from_group from_files from_other from_word from_words with_carets shown spoken with_text with_extra with_outputs drafted with_job with_jobs only_body named_body body_in one_more with_body defined is_blocked is_way_blocked known_output from_output from_outputs given_to plan_of planned with_words words_in ruled cut with_named with_macro words_of compared compares looked_up held_at held_in named_file included_file lines_of ended at_levels opening opened included ruled_by ruled_below ruled_down complained stated plain_line with_kind with_lines with_file with_room opener_of drafts_in reading with_value value_of assigned
 demo_ran = (told.Content (Some demo_tupfile), refl, subst (λ (cut : Result (List Line) LexFault). Ran first_told (goes_on cut) demo_log (Ok (demo_draft ∷ []))) (sym tupfile_lines) ran_on)
 
 -- ---- what it is told is so
@@ -155,13 +155,17 @@ nothing_there = finite.get-from_entries by_names-total demo_files (codes "b" ∷
 
 -- what is told of a path where this was found there, in a tree with these files
 abbrev awaited_by : Names → Option Content → List Names → Option Names
-awaited_by path found files = option_and_then (unread demo_tree no_readings []) (if is_some found || has_below files path then None else result_ok (above path))
+awaited_by path found files = option_and_then (unread demo_tree no_readings []) (if is_some found || has_below files path then None else option_and_then (home demo_tree) (result_ok (above path)))
 
 abbrev kind_by : Names → Option Content → List Names → Told
 kind_by path found files =
     told.Kind (if is_some found then File
     else if has_below files path then Dir
-    else elim (result_ok (above path)) as (λ _. Kind) [ Some dir ↦ made_kind no_readings [] dir path | None ↦ Nothing ])
+    else elim (result_ok (above path)) as (λ _. Kind) [ Some dir ↦ made_kind demo_tree no_readings [] dir path | None ↦ Nothing ])
+
+-- the home of the top, where this was found as its Tupfile
+abbrev home_by : Option Content → Option Names
+home_by found = if is_some found then Some [] else None
 
 files_are : finite.keys demo_tree ≡ (codes "Tupfile" ∷ []) ∷ (codes "a" ∷ []) ∷ []
 files_are = ap (λ (files : List (Names × Content)). map (λ (file : Names × Content). file.0) files) demo_entries
@@ -176,11 +180,13 @@ b_is_ready : awaited demo_tree no_readings [] (query.Kind (codes "b" ∷ [])) �
 b_is_ready =
     ap (λ (found : Option Content). awaited_by (codes "b" ∷ []) found (finite.keys demo_tree)) nothing_there
     ∙ ap (λ (files : List Names). awaited_by (codes "b" ∷ []) None files) files_are
+    ∙ ap (λ (found : Option Content). option_and_then (unread demo_tree no_readings []) (home_by found)) tupfile_there
 
 b_is_nothing : told.Kind Nothing ≡ answer demo_tree [] no_readings [] (query.Kind (codes "b" ∷ []))
 b_is_nothing =
     sym (ap (λ (found : Option Content). kind_by (codes "b" ∷ []) found (finite.keys demo_tree)) nothing_there
-    ∙ ap (λ (files : List Names). kind_by (codes "b" ∷ []) None files) files_are)
+    ∙ ap (λ (files : List Names). kind_by (codes "b" ∷ []) None files) files_are
+    ∙ ap (λ (found : Option Content). told.Kind (if is_made (elim (home_by found) as (λ _. List Draft) [ Some folder ↦ other_drafts no_readings [] folder | None ↦ [] ]) (codes "b" ∷ []) then File else Nothing)) tupfile_there)
 
 demo_answered : IsAnswered demo_tree [] no_readings [] demo_log
 demo_answered question answered e =

@@ -13,6 +13,7 @@ pub mod Needed
 pub mod Lasts
 pub mod Committing
 pub mod Keeping
+pub mod Homes
 pub mod OneWay
 pub mod Values
 pub mod Finishing

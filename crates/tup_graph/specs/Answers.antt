@@ -1,5 +1,5 @@
--- What sources and readings answer to a question of a reading (own): sources alone for the folder that is read, and for other
--- folders also the outputs of their readings. Sources are known by their stamps.
+-- What sources and readings answer to a question of a reading (own): sources, and the outputs of the reading of the home of the
+-- folder that is asked about, where that is another folder than the one that is read. Sources are known by their stamps.
 use Rattle.std.specs.Prelude.{◌≡◌, ◌≢◌, ◌⊎◌, ◌↔◌, ℕ, List, [], ◌∷◌, ◌++◌, Option, None, Some, Ok, Contains, IsSome, codes}
 use Rattle.std.specs.List.Sorted.{IsStrictlySortedBy}
 use Rattle.std.specs.FinMap as finite
@@ -50,20 +50,32 @@ pub record IsOutputOf (sources : Sources) (readings : Readings) (dir path : Name
   pub has_tupfile : IsSource sources (tupfile dir)
   pub drafted : IsDrafted reading.drafts path
 
--- a file that the reading of a folder is told of: a source, or an output of the reading of its own folder, where that
--- is another one
+-- a folder is at or above another
+abbrev pub IsAtOrAbove : Names → Names → Type 0
+IsAtOrAbove folder dir = (rest : Names) × (dir ≡ folder ++ rest)
+
+-- the home of a folder: the nearest folder at or above it that has a Tupfile
+pub record IsHome (sources : Sources) (dir home : Names) : Type 0 where
+  pub above : IsAtOrAbove home dir
+  pub has_tupfile : IsSource sources (tupfile home)
+  pub nearest : (folder : Names) → IsBelow home folder → IsAtOrAbove folder dir → IsSource sources (tupfile folder) → ⊥
+
+-- an output that the reading of a folder (reader) is told of in a folder (dir): one of the reading of its home, where that is
+-- another folder than the one that is read
+abbrev pub IsOutputFor : Sources → Readings → Names → Names → Names → Type 0
+IsOutputFor sources readings reader dir path = (home : Names) × IsHome sources dir home × (home ≢ reader) × IsOutputOf sources readings home path
+
+-- a file in a folder that the reading of a folder is told of: a source, or such an output
 abbrev pub IsFileFor : Sources → Readings → Names → Names → List ℕ → Type 0
-IsFileFor sources readings reader dir name =
-    IsSource sources (dir ++ name ∷ []) ⊎ ((dir ≢ reader) × IsOutputOf sources readings dir (dir ++ name ∷ []))
+IsFileFor sources readings reader dir name = IsSource sources (dir ++ name ∷ []) ⊎ IsOutputFor sources readings reader dir (dir ++ name ∷ [])
 
 -- a source lies below a path
 abbrev pub HasSourceBelow : Sources → Names → Type 0
 HasSourceBelow sources path = (file : Names) × IsBelow path file × IsSource sources file
 
--- an output of the reading of its folder, which is another one than the one that is read
+-- a path in some folder is such an output
 abbrev pub IsMadeElsewhere : Sources → Readings → Names → Names → Type 0
-IsMadeElsewhere sources readings reader path =
-    (dir : Names) × (name : List ℕ) × (path ≡ dir ++ name ∷ []) × (dir ≢ reader) × IsOutputOf sources readings dir path
+IsMadeElsewhere sources readings reader path = (dir : Names) × (name : List ℕ) × (path ≡ dir ++ name ∷ []) × IsOutputFor sources readings reader dir path
 
 -- what stands at a path: a source, then a folder of sources, then an output of another reading
 abbrev pub IsKind : Sources → Readings → Names → Names → Kind → Type 0

@@ -1,8 +1,9 @@
 -- Answers to a reading can't be other than refuted or right; and more known contents change none of them.
 use Rattle.std.specs.Prelude.{◌≡◌, ◌⊎◌, Bool, true, false, List, ℕ, [], ◌∷◌, ◌++◌, Option, None, Some, Ok, Err, Result, Contains, cond, is_some, option_to_list}
-use Rattle.std.proofs.Common.{refl, sym, ap, ap₂, subst, ◌∙◌, inl, inr}
+use Rattle.std.proofs.Common.{refl, sym, ap, ap₂, subst, ◌∙◌, inl, inr, append_assoc}
 use Rattle.std.specs.FinMap as finite
 use Rattle.std.proofs.lemmas.Bool.{false≢true}
+use Rattle.std.proofs.lemmas.List.{append-nil}
 use Rattle.std.proofs.lemmas.Option.{same_Some}
 use Rattle.tup_path.specs.Name.{Names, Content}
 use Rattle.tup_path.specs.Order.{by_names}
@@ -21,11 +22,12 @@ use Rattle.tup_rule.specs.declared.question.Reading.{Reading}
 use Rattle.tup_vars.specs.Config.{config_of}
 use Rattle.tup_vars.specs.Table.{Entries, look}
 use Rattle.tup_vars.specs.declared.fault.ConfigFault.{ConfigFault}
-use Rattle.tup_graph.specs.Answers.{tupfile, tup_config, Sources, Readings, HasSourceBelow, IsAnswer, IsDrafted, IsFileFor, IsKind, IsMadeElsewhere, IsOutputOf, IsSetTo, IsSource}
+use Rattle.tup_graph.specs.Answers.{tupfile, tup_config, Sources, Readings, HasSourceBelow, IsAnswer, IsDrafted, IsFileFor, IsHome, IsKind, IsMadeElsewhere, IsOutputFor, IsOutputOf, IsSetTo, IsSource}
 use Rattle.tup_graph.specs.Graph.{GraphState, is_owned, source}
+use Rattle.tup_graph.proofs.Homes.{above_of_home, home_of_above, no_home_above, one_home, own_home}
 use Rattle.tup_readers.proofs.Entries.{in_front, front_or_behind, none_in}
 use Rattle.tup_closure.proofs.Members.{listed}
-use Rattle.tup_scan_diff.proofs.Answered.{nothing_elsewhere, not_elsewhere}
+use Rattle.tup_scan_diff.proofs.Answered.{nothing_elsewhere}
 use Rattle.tup_scan_diff.proofs.Paths.{last_item, one_folder}
 use Rattle.tup_law_graph.proofs.Stable.{Settled, Stable, found, held, is_true, same_options, same_paths, same_seen, same_stamps, same_texts, settled_both, stable_both, stable_either, stable_never, stable_not, stable_of, stable_sorted}
 
@@ -76,6 +78,49 @@ module _ (sources : Sources) (readings : Readings) where
             (λ no. unrefuted (λ out. no (subst (λ (r : Reading). IsDrafted r.drafts path) (same_Some out.reading reading (sym out.kept ∙ here)) out.drafted)));
       }
 
+  -- ---- outputs that a reading is told of
+
+  abbrev HasHome : Names → Type 0
+  HasHome dir = (home : Names) × IsHome sources dir home
+
+  tupfile_settled : (dir : Names) → Settled (IsSource sources (tupfile dir))
+  tupfile_settled dir = is_true (is_some (sources (tupfile dir)))
+
+  top_home_settled : Settled (HasHome [])
+  top_home_settled = by (tupfile_settled [])
+    where
+      by : Settled (IsSource sources (tupfile [])) → Settled (HasHome [])
+      by (inl there) = inl ([], own_home sources [] there)
+      by (inr none) = inr (λ (home, is). no_home_above sources home none is)
+
+  home_further : (dir : Names) (name : List ℕ) → Settled (HasHome dir) → Settled (HasHome (dir ++ name ∷ []))
+  home_further dir name = by (tupfile_settled (dir ++ name ∷ []))
+    where
+      by : Settled (IsSource sources (tupfile (dir ++ name ∷ []))) → Settled (HasHome dir) → Settled (HasHome (dir ++ name ∷ []))
+      by (inl there) found = inl (dir ++ name ∷ [], own_home sources (dir ++ name ∷ []) there)
+      by (inr none) (inl (home, is)) = inl (home, home_of_above sources dir name none home is)
+      by (inr none) (inr no_home) = inr (λ (home, is). no_home (home, above_of_home sources dir name none home is))
+
+  home_down : (dir names : Names) → Settled (HasHome dir) → Settled (HasHome (dir ++ names))
+  home_down dir [] found = subst (λ (d : Names). Settled (HasHome d)) (sym (append-nil dir)) found
+  home_down dir (name ∷ names) found = subst (λ (d : Names). Settled (HasHome d)) (append_assoc dir (name ∷ []) names) (home_down (dir ++ name ∷ []) names (home_further dir name found))
+
+  -- a folder has a home, or it has none
+  home_settled : (dir : Names) → Settled (HasHome dir)
+  home_settled dir = home_down [] dir top_home_settled
+
+  output_for_stable : (reader dir path : Names) → Stable (IsOutputFor sources readings reader dir path)
+  output_for_stable reader dir path = by (home_settled dir)
+    where
+      by : Settled (HasHome dir) → Stable (IsOutputFor sources readings reader dir path)
+      by (inr none) unrefuted = absurd (unrefuted (λ (other, is, apart, out). none (other, is)))
+      by (inl (home, is)) unrefuted = (
+        home,
+        is,
+        λ same. unrefuted (λ (other, also, apart, out). apart (one_home sources dir other home also is ∙ same)),
+        output_stable home path (λ no. unrefuted (λ (other, also, apart, out). no (subst (λ (d : Names). IsOutputOf sources readings d path) (one_home sources dir other home also is) out))),
+      )
+
   elsewhere_stable : (reader path : Names) → Stable (IsMadeElsewhere sources readings reader path)
   elsewhere_stable reader path = by (last_item path)
     where
@@ -85,12 +130,11 @@ module _ (sources : Sources) (readings : Readings) where
         front,
         last,
         is,
-        λ same. unrefuted (not_elsewhere sources readings reader path front last is same),
-        output_stable front path (λ no. unrefuted (λ (other, name, other_is, apart, out). no (subst (λ (d : Names). IsOutputOf sources readings d path) (one_folder other front name last (sym other_is ∙ is)) out))),
+        output_for_stable reader front path (λ no. unrefuted (λ (other, name, other_is, out). no (subst (λ (d : Names). IsOutputFor sources readings reader d path) (one_folder other front name last (sym other_is ∙ is)) out))),
       )
 
   file_stable : (reader dir : Names) (name : List ℕ) → Stable (IsFileFor sources readings reader dir name)
-  file_stable reader dir name = stable_either (is_true (is_some (sources (dir ++ name ∷ [])))) (stable_both stable_not (output_stable dir (dir ++ name ∷ [])))
+  file_stable reader dir name = stable_either (is_true (is_some (sources (dir ++ name ∷ [])))) (output_for_stable reader dir (dir ++ name ∷ []))
 
 kind_stable : (g : GraphState) (readings : Readings) (reader path : Names) (kind : Kind) → Stable (IsKind (source g) readings reader path kind)
 kind_stable g readings reader path File = stable_either (is_true (is_some (source g path))) (stable_both stable_not (elsewhere_stable (source g) readings reader path))

@@ -35,9 +35,9 @@ use Rattle.tup_rule_line.specs.State.{is_made}
 use Rattle.tup_rule_line.proofs.Soundness.{name_in-own}
 use Rattle.tup_tupfile.specs.Reading.{reading}
 use Rattle.tup_tupfile.proofs.Soundness.{reading-sound}
-use Rattle.tup_readings.specs.Answers.{Readings, answer, drafts_of, made_kind}
+use Rattle.tup_readings.specs.Answers.{Readings, answer, drafts_of, made_kind, other_drafts}
 use Rattle.tup_readings.specs.Readings.{AreAllReadings, AreReadWith, AreSomeReadings, IsReadingOver}
-use Rattle.tup_readings.specs.Sources.{has_below, is_source, settings_of}
+use Rattle.tup_readings.specs.Sources.{has_below, home, is_source, settings_of}
 use Rattle.tup_readings.proofs.One.{of_tupfiles, reading_in, readings_agree}
 use Rattle.tup_link.specs.Groups.{given_to, gives_to, members}
 use Rattle.tup_link.specs.Linked.{Members, rule_of, rules_of, with_path, with_paths}
@@ -125,24 +125,30 @@ module _ (sources : Tree) (settings : Entries) (list : List (Names × Reading)) 
 
     -- what stands at a path where there is neither a source nor a folder of sources
     abbrev made_in : Names → Option Names → Kind
-    made_in path up = elim up as (λ _. Kind) [ Some dir ↦ made_kind before reader dir path | None ↦ Nothing ]
+    made_in path up = elim up as (λ _. Kind) [ Some dir ↦ made_kind sources before reader dir path | None ↦ Nothing ]
 
     -- a file that is told is there
     made_there : (path : Names) (up : Option Names) → made_in path up ≡ File → IsMade path
     made_there path None e = absurd (let wrong : Nothing ≡ File = e in cc)
-    made_there path (Some dir) e = own (same_path reader dir) e
+    made_there path (Some dir) e = at (home sources dir) e
       where
         as_file : (b : Bool) → cond b File Nothing ≡ File → b ≡ true
         as_file true e = refl
         as_file false e = absurd (let wrong : Nothing ≡ File = e in cc)
 
-        other : (now : Option Reading) → finite.get before dir ≡ now → cond (is_made (elim now as (λ _. List Draft) [ Some left ↦ left.drafts | None ↦ [] ]) path) File Nothing ≡ File → IsMade path
-        other None none e = absurd (let wrong : Nothing ≡ File = e in cc)
-        other (Some left) here e = ((dir, left), listed dir left (reading_stays sources settings readings before all some dir left here), drafted left.drafts path (as_file (is_made left.drafts path) e))
+        other : (folder : Names) (now : Option Reading) → finite.get before folder ≡ now → cond (is_made (elim now as (λ _. List Draft) [ Some left ↦ left.drafts | None ↦ [] ]) path) File Nothing ≡ File → IsMade path
+        other folder None none e = absurd (let wrong : Nothing ≡ File = e in cc)
+        other folder (Some left) here e =
+            ((folder, left), listed folder left (reading_stays sources settings readings before all some folder left here), drafted left.drafts path (as_file (is_made left.drafts path) e))
 
-        own : (b : Bool) → cond (is_made (cond b [] (drafts_of before dir)) path) File Nothing ≡ File → IsMade path
-        own true e = absurd (let wrong : Nothing ≡ File = e in cc)
-        own false e = other (finite.get before dir) refl e
+        own : (folder : Names) (b : Bool) → cond (is_made (cond b [] (drafts_of before folder)) path) File Nothing ≡ File → IsMade path
+        own folder true e = absurd (let wrong : Nothing ≡ File = e in cc)
+        own folder false e = other folder (finite.get before folder) refl e
+
+        -- it is one of the rules of the home of its folder
+        at : (found : Option Names) → cond (is_made (elim found as (λ _. List Draft) [ Some folder ↦ other_drafts before reader folder | None ↦ [] ]) path) File Nothing ≡ File → IsMade path
+        at None e = absurd (let wrong : Nothing ≡ File = e in cc)
+        at (Some folder) e = own folder (same_path reader folder) e
 
     file_there : (path : Names) → told_at answers path ≡ File → IsThere path
     file_there path e = by (is_source sources path) refl (has_below (finite.keys sources) path) e

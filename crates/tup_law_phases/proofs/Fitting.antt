@@ -66,7 +66,7 @@ module _ (known : List Content) (sources : Tree) (g : GraphState) (settings : En
   right before some dir (asks.Config name) ready = config_right name
   right before some dir (asks.Names folder) ready =
       (let tups = of_tupfiles sources settings some.0 before some.1 in
-      names_told sources now sees settings before tups dir folder (shows sources now sees settings before tups dir folder ready (λ left. reading_stays sources settings all before are some folder left)))
+      names_told sources now sees settings before tups dir folder (shows sources now sees settings before tups dir folder ready (λ other left of. reading_stays sources settings all before are some other left)))
   right before some dir (asks.Kind path) ready =
       kind_stands sources now sees settings before (of_tupfiles sources settings some.0 before some.1) dir path ready (λ folder left of. reading_stays sources settings all before are some folder left)
 

@@ -1,7 +1,7 @@
 -- What a fault in a Tupfile or in tup.config is called where it is printed (the wording is own).
 use Rattle.std.specs.Prelude.{ℕ, List, ◌++◌, codes}
 use Rattle.tup_lex.specs.declared.kind.ParseKind.{ParseKind}
-use Rattle.tup_lex.specs.declared.kind.ParseKind.TheVariants.{NotUtf8, LineTooLong, UnknownLine, NoArrow, BadBrace, BadCaret, Unclosed, BadName, StrayElse, StrayEndif, MissingEndif, ConfigLine, OpenBracket, UnknownFlag, FlagNotHere, NoSuchMacro, NoSuchBin, DefinedTwice, MissingInput, DuplicateOutput, OutputIsSource, OutputIsDir, ForeignOutput, DuplicateCommand, UserError, IncludeMissing, TooDeep}
+use Rattle.tup_lex.specs.declared.kind.ParseKind.TheVariants.{NotUtf8, LineTooLong, UnknownLine, NoArrow, BadBrace, BadCaret, Unclosed, BadName, StrayElse, StrayEndif, MissingEndif, ConfigLine, OpenBracket, UnknownFlag, FlagNotHere, NoSuchMacro, NoSuchBin, DefinedTwice, MissingInput, DuplicateOutput, OutputIsSource, OutputIsDir, ForeignOutput, OutputBelowFile, DuplicateCommand, UserError, IncludeMissing, TooDeep}
 
 -- the text of each kind; a fault that the user wrote has his own words behind `error: `
 abbrev pub kind_text : ParseKind → List ℕ
@@ -28,6 +28,7 @@ kind_text DuplicateOutput = codes "output named twice"
 kind_text OutputIsSource = codes "output is a source file"
 kind_text OutputIsDir = codes "output is a directory"
 kind_text ForeignOutput = codes "output stands elsewhere"
+kind_text OutputBelowFile = codes "output stands below a file"
 kind_text DuplicateCommand = codes "command given twice"
 kind_text (UserError text) = codes "error: " ++ text
 kind_text IncludeMissing = codes "include file missing"

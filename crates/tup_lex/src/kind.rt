@@ -54,6 +54,8 @@ pub enum ParseKind {
     OutputIsDir,
     /// An output that may not stand there.
     ForeignOutput,
+    /// An output below a file, or above another output.
+    OutputBelowFile,
     /// Two commands of one directory with the same text.
     DuplicateCommand,
     /// The user's own fault, with its expanded text.
@@ -94,6 +96,7 @@ impl fmt::Display for ParseKind {
             ParseKind::OutputIsSource => "output is a source file",
             ParseKind::OutputIsDir => "output is a directory",
             ParseKind::ForeignOutput => "output stands elsewhere",
+            ParseKind::OutputBelowFile => "output stands below a file",
             ParseKind::DuplicateCommand => "command given twice",
             ParseKind::UserError(text) => return write!(f, "error: {}", text.as_str()),
             ParseKind::IncludeMissing => "include file missing",

@@ -1,5 +1,5 @@
--- The rules that the readings of all folders come to: each makes in its own folder what no rule before it makes.
-use Rattle.std.proofs.Common.{◌≡◌, inl, inr, ℕ, Bool, true, false, cond, ◌||◌, List, [], ◌∷◌, ◌++◌, map, Some, None, Result, Ok, Err, IsTrue, refl, sym, ap, ◌∙◌, subst, append_assoc, append-nil}
+-- The rules that the readings of all folders come to: each makes what no rule before it makes, where the rules of its folder alone may.
+use Rattle.std.proofs.Common.{◌≡◌, inl, inr, Bool, true, false, cond, ◌||◌, List, [], ◌∷◌, ◌++◌, map, Some, None, Result, Ok, Err, IsTrue, refl, sym, ap, ◌∙◌, subst, append_assoc, append-nil}
 use Rattle.std.specs.Bool.{passes}
 use Rattle.std.specs.FinMap as finite
 use Rattle.std.specs.FinMap.Entries.{below_all}
@@ -30,7 +30,7 @@ use Rattle.tup_link.specs.Linked.{Members, rule_of, rules_of}
 use Rattle.tup_link.specs.Placed.{placed_in, placed, drafts_of}
 use Rattle.tup_project.specs.Project.{AreLinked}
 use Rattle.tup_project.proofs.Making.{MakesHere, AllMakeHere, all_keep}
-use Rattle.tup_project.proofs.Standing.{IsNew, AreNew, new_append, same_front, can_stand}
+use Rattle.tup_project.proofs.Standing.{home_of, home_above_it, IsNew, AreNew, new_append, can_stand}
 
 -- ---- paths and their order
 
@@ -54,9 +54,9 @@ module _ (sources : Tree) (group_has : Members) where
   generated_here dir [] path = refl
   generated_here dir (draft ∷ more) path = ap (λ b. among path draft.outputs || b) (generated_here dir more path)
 
-  -- none of some rules makes a file of a folder
+  -- none of some rules makes a file that a folder's rules alone may make
   abbrev IsApart : List Rule → Names → Type 0
-  IsApart rules dir = (name : List ℕ) → is_generated rules (dir ++ name ∷ []) ≡ false
+  IsApart rules dir = (path : Names) → home_of sources path ≡ Some dir → is_generated rules path ≡ false
 
   -- ---- the rules of one folder
 
@@ -70,34 +70,40 @@ module _ (sources : Tree) (group_has : Members) where
   folder_new : (before : List Rule) (dir : Names) (made drafts : List Draft) → IsApart before dir → has_tupfile sources dir ≡ true → AllMakeHere sources dir made drafts
       → AreNew sources (before ++ rules_here dir made) (rules_here dir drafts)
   folder_new before dir made [] none has all = tt
-  folder_new before dir made (draft ∷ more) none has ((here, once), rest) = (
-    (All-weaker (MakesHere sources dir made) (IsNew sources (before ++ rules_here dir made) (rule_of group_has (placed_in dir draft))) new draft.outputs here, once),
+  folder_new before dir made (draft ∷ more) none has ((here, flat), rest) = (
+    (All-weaker (MakesHere sources dir made) (IsNew sources (before ++ rules_here dir made) (rule_of group_has (placed_in dir draft))) new draft.outputs here, flat),
     subst (λ (rules : List Rule). AreNew sources rules (rules_here dir more)) (one_more before dir made draft) (folder_new before dir (made ++ draft ∷ []) more none has rest),
   )
     where
+      -- of the rules so far those of the folder make what the folder's rules alone may make
+      made_so_far : (path : Names) → home_of sources path ≡ Some dir → is_generated (before ++ rules_here dir made) path ≡ is_made made path
+      made_so_far path home =
+          list_any-append (λ (rule : Rule). writes rule path) before (rules_here dir made)
+          ∙ ap (λ b. b || is_generated (rules_here dir made) path) (none path home)
+          ∙ generated_here dir made path
+
       new : (path : Names) → MakesHere sources dir made path → IsNew sources (before ++ rules_here dir made) (rule_of group_has (placed_in dir draft)) path
       new path makes = record {
-        name = makes.name;
-        own = makes.own;
         has = has;
+        home = makes.home;
+        no_file = makes.no_file;
         no_source = makes.no_source;
         no_folder = makes.no_folder;
-        new =
-            list_any-append (λ (rule : Rule). writes rule path) before (rules_here dir made)
-            ∙ ap (λ b. b || is_generated (rules_here dir made) path) (ap (is_generated before) makes.own ∙ none makes.name)
-            ∙ generated_here dir made path ∙ makes.new;
+        new = made_so_far path makes.home ∙ makes.new;
+        apart = λ other generated home. makes.apart other (sym (made_so_far other home) ∙ generated) (home_above_it sources other dir home);
       }
 
   elsewhere : (dir other : Names) → same_path dir other ≡ false → (made drafts : List Draft) → AllMakeHere sources dir made drafts → IsApart (rules_here dir drafts) other
-  elsewhere dir other far made [] all name = refl
-  elsewhere dir other far made (draft ∷ more) ((here, once), rest) name =
-      ap (λ b. b || is_generated (rules_here dir more) (other ++ name ∷ []))
-      (list_any_none (same_path (other ++ name ∷ [])) draft.outputs (All-weaker (MakesHere sources dir made) (λ path. same_path (other ++ name ∷ []) path ≡ false) not_there draft.outputs here))
-      ∙ elsewhere dir other far (made ++ draft ∷ []) more rest name
+  elsewhere dir other far made [] all path home = refl
+  elsewhere dir other far made (draft ∷ more) ((here, flat), rest) path home =
+      ap (λ b. b || is_generated (rules_here dir more) path)
+      (list_any_none (same_path path) draft.outputs (All-weaker (MakesHere sources dir made) (λ output. same_path path output ≡ false) not_there draft.outputs here))
+      ∙ elsewhere dir other far (made ++ draft ∷ []) more rest path home
     where
-      not_there : (path : Names) → MakesHere sources dir made path → same_path (other ++ name ∷ []) path ≡ false
-      not_there path makes = apart (other ++ name ∷ []) path (λ same.
-          let here : dir ≡ other = same_front dir other makes.name name (sym (same ∙ makes.own)) in
+      not_there : (output : Names) → MakesHere sources dir made output → same_path path output ≡ false
+      not_there output makes = apart path output (λ same.
+          let both : Some dir ≡ Some other = sym makes.home ∙ ap (home_of sources) (sym same) ∙ home in
+          let here : dir ≡ other = cc in
           let wrong : true ≡ false = sym ((same_path-decides dir other).1 here) ∙ far in
           cc)
 
@@ -117,7 +123,7 @@ module _ (sources : Tree) (group_has : Members) where
 
   apart_from_none : (list : List (Names × Reading)) → AllApart [] list
   apart_from_none [] = tt
-  apart_from_none (read ∷ more) = (λ name. refl, apart_from_none more)
+  apart_from_none (read ∷ more) = (λ path home. refl, apart_from_none more)
 
   apart_then : (before : List Rule) (read : Names × Reading) (more : List (Names × Reading)) → Keeps read → below_all by_names read.0 more ≡ true → AllApart before more
       → AllApart (before ++ rules_here read.0 read.1.drafts) more
@@ -125,9 +131,9 @@ module _ (sources : Tree) (group_has : Members) where
   apart_then before read (next ∷ more) keeps below (none, rest) =
       let parts = and_parts (is_lt (by_names read.0 next.0)) (below_all by_names read.0 more) below in
       let far : same_path read.0 next.0 ≡ false = same_path-by_names read.0 next.0 ∙ less_apart (by_names read.0 next.0) parts.0 in (
-        λ name. list_any-append (λ (rule : Rule). writes rule (next.0 ++ name ∷ [])) before (rules_here read.0 read.1.drafts)
-            ∙ ap (λ b. b || is_generated (rules_here read.0 read.1.drafts) (next.0 ++ name ∷ [])) (none name)
-            ∙ elsewhere read.0 next.0 far [] read.1.drafts keeps.1 name,
+        λ path home. list_any-append (λ (rule : Rule). writes rule path) before (rules_here read.0 read.1.drafts)
+            ∙ ap (λ b. b || is_generated (rules_here read.0 read.1.drafts) path) (none path home)
+            ∙ elsewhere read.0 next.0 far [] read.1.drafts keeps.1 path home,
         apart_then before read more keeps parts.1 rest,
       )
 

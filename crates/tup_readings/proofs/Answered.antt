@@ -1,14 +1,17 @@
 -- What one who answers told, by what sources and readings answer.
-use Rattle.std.proofs.Common.{◌≡◌, Bool, true, false, Option, Some, None, IsTrue, refl, sym, ap, ◌∙◌}
-use Rattle.tup_path.specs.Name.{Names}
+use Rattle.std.proofs.Common.{◌≡◌, Bool, true, false, Option, Some, None, IsTrue, is_some, refl, sym, ap, ◌∙◌}
+use Rattle.std.specs.FinMap as finite
+use Rattle.tup_path.specs.Name.{Names, Content}
 use Rattle.tup_path.specs.Order.{same_path}
 use Rattle.tup_path.specs.Tree.{Tree}
 use Rattle.tup_path.proofs.Same.{same_path-decides}
 use Rattle.tup_rule.specs.declared.question.Question.{Question}
 use Rattle.tup_rule.specs.declared.question.Question.TheVariants as asks
 use Rattle.tup_rule.specs.declared.question.Told.{Told}
+use Rattle.tup_rule.specs.declared.question.Told.TheVariants as told
 use Rattle.tup_vars.specs.Table.{Entries}
 use Rattle.tup_query.specs.Log.{Log, fits, Says}
+use Rattle.tup_readings.specs.Sources.{tupfile, has_tupfile}
 use Rattle.tup_readings.specs.Answers.{Readings, awaited, answer}
 use Rattle.tup_readings.specs.Asked.{misfit, answer_or_misfit, waits_for}
 use Rattle.tup_readings.specs.Readings.{IsAnswered}
@@ -70,6 +73,13 @@ pub waits_for-refl : (sources : Tree) (readings : Readings) (reader next : Names
 waits_for-refl sources readings reader next question e =
     ap (λ (found : Option Names). elim found as (λ _. Bool) [ Some dir ↦ same_path dir next | None ↦ false ]) e ∙ (same_path-decides next next).1 refl
 
+-- one who tells the same before and after has the same sources
+pub same_sources : (sources after : Tree) (settings set : Entries) (readings read : Readings) (reader other : Names)
+    → answer_or_misfit after set read other ≡ answer_or_misfit sources settings readings reader → (path : Names) → finite.get after path ≡ finite.get sources path
+same_sources sources after settings set readings read reader other same path =
+    let told_same : told.Content (finite.get after path) ≡ told.Content (finite.get sources path) = ap (λ (tells : Question → Told). tells (asks.Content path)) same in
+    cc
+
 -- one who tells the same before and after stopped for the same folder at a question
 pub waits_as_before : (sources after : Tree) (settings set : Entries) (readings read : Readings) (reader other next : Names) (question : Question)
     → answer_or_misfit after set read other ≡ answer_or_misfit sources settings readings reader → IsTrue (waits_for after read other next question)
@@ -86,7 +96,9 @@ waits_as_before sources after settings set readings read reader other next quest
     by (Some dir) e =
         let here = awaited_is sources readings reader dir question e in
         let there = awaited_is after read other next question waits in
-        e ∙ ap (λ d. Some d) (one_folder sources after question dir next here.0 there.0)
+        let alike : (folder : Names) → has_tupfile sources folder ≡ has_tupfile after folder = λ folder.
+        ap (λ (found : Option Content). is_some found) (sym (same_sources sources after settings set readings read reader other same (tupfile folder))) in
+        e ∙ ap (λ d. Some d) (one_folder sources after alike question dir next here.0 there.0)
     by None e =
         let is : answer sources settings readings reader question ≡ misfit question = sym (told_where_ready sources settings readings reader question e) ∙ is_misfit in
         let wrong : true ≡ false = sym (answer_fits sources settings readings reader question) ∙ ap (fits question) is ∙ unfit after read other next question waits in

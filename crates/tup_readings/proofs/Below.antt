@@ -1,17 +1,17 @@
 -- Paths by their folder and their name.
-use Rattle.std.proofs.Common.{◌≡◌, ◌⊎◌, inl, inr, ℕ, Bool, true, false, cond, ◌&&◌, ◌||◌, List, [], ◌∷◌, ◌++◌, length, Option, Some, None, refl, sym, ap, ◌∙◌, arith, length-append}
-use Rattle.std.specs.Prelude.{slice_get, bytes_eq}
+pub use Rattle.tup_rule_line.proofs.Below.{last_item, nothing_below, below_named, not_below_itself, below_through}
+use Rattle.std.proofs.Common.{◌≡◌, inl, inr, ℕ, Bool, true, false, cond, ◌||◌, List, [], ◌∷◌, ◌++◌, length, Option, Some, None, refl, sym, ap, ◌∙◌, arith, length-append}
+use Rattle.std.specs.Prelude.{slice_get}
 use Rattle.std.specs.BTreeSet.{insert_key}
 use Rattle.std.specs.List.{cons_option}
 use Rattle.std.specs.Result.{result_ok}
-use Rattle.std.proofs.lemmas.Bool.{and_from, and_parts, false≢true, or_left, or_parts, or_right}
+use Rattle.std.proofs.lemmas.Bool.{or_left, or_parts, or_right}
 use Rattle.std.proofs.lemmas.List.{append-nil}
 use Rattle.std.proofs.lemmas.List.Elements.{filter_map-append}
 use Rattle.std.proofs.lemmas.List.Folds.{list_any-append}
 use Rattle.tup_path.specs.Name.{Names}
 use Rattle.tup_path.specs.Order.{by_bytes, same_path}
 use Rattle.tup_path.specs.Resolve.{above}
-use Rattle.tup_path.proofs.Same.{same_bytes-decides}
 use Rattle.tup_path.proofs.Walks.{above_last}
 use Rattle.tup_rule_line.specs.Folder.{name_in}
 use Rattle.tup_rule_line.specs.Glob.{names_among, in_order}
@@ -22,27 +22,11 @@ use Rattle.tup_readings.specs.Index.{or_none}
 
 -- ---- tests
 
-and_false : (a : Bool) → (a && false) ≡ false
-and_false true = refl
-and_false false = refl
-
-and_or : (a b c : Bool) → (a && (b || c)) ≡ ((a && b) || (a && c))
-and_or true b c = refl
-and_or false b c = refl
-
 pub or_false : (a : Bool) → (a || false) ≡ a
 or_false true = refl
 or_false false = refl
 
 -- ---- the last name of a path
-
--- a list is empty, or it has a last item
-pub last_item : {A : Type 0} (xs : List A) → (xs ≡ []) ⊎ ((front : List A) × (last : A) × (xs ≡ front ++ last ∷ []))
-last_item [] = inl refl
-last_item (x ∷ xs) = elim (last_item xs) [
-  | inl none ↦ inr ([], x, ap (λ l. x ∷ l) none)
-  | inr some ↦ inr (x ∷ some.0, some.1, ap (λ l. x ∷ l) some.2)
-]
 
 pub at_last : {A : Type 0} (front : List A) (last : A) → slice_get (front ++ last ∷ []) (length front) ≡ Some last
 at_last [] last = refl
@@ -64,34 +48,6 @@ pub above_named : (up : Names) (name : List ℕ) → result_ok (above (up ++ nam
 above_named up name = ap result_ok (above_last up name)
 
 -- ---- what lies below a folder
-
-pub nothing_below : (dir : Names) → is_below dir [] ≡ false
-nothing_below [] = refl
-nothing_below (name ∷ dir) = refl
-
--- a path lies below just its folder and what that lies below
-pub below_named : (dir up : Names) (name : List ℕ) → is_below dir (up ++ name ∷ []) ≡ (same_path dir up || is_below dir up)
-below_named [] [] name = refl
-below_named [] (first ∷ up) name = refl
-below_named (first ∷ dir) [] name = ap (λ b. bytes_eq first name && b) (nothing_below dir) ∙ and_false (bytes_eq first name)
-below_named (first ∷ dir) (second ∷ up) name =
-    ap (λ b. bytes_eq first second && b) (below_named dir up name) ∙ and_or (bytes_eq first second) (same_path dir up) (is_below dir up)
-
--- a folder doesn't lie below itself
-pub not_below_itself : (dir : Names) → is_below dir dir ≡ false
-not_below_itself [] = refl
-not_below_itself (name ∷ dir) = ap (λ b. bytes_eq name name && b) (not_below_itself dir) ∙ and_false (bytes_eq name name)
-
--- what lies below a folder lies below what that lies below
-below_through : (dir up path : Names) → is_below dir up ≡ true → is_below up path ≡ true → is_below dir path ≡ true
-below_through [] up [] over under = absurd (false≢true (sym (nothing_below up) ∙ under))
-below_through [] up (name ∷ path) over under = refl
-below_through (first ∷ dir) [] path over under = absurd (false≢true over)
-below_through (first ∷ dir) (second ∷ up) [] over under = absurd (false≢true under)
-below_through (first ∷ dir) (second ∷ up) (name ∷ path) over under =
-    let front = and_parts (bytes_eq first second) (is_below dir up) over in
-    let back = and_parts (bytes_eq second name) (is_below up path) under in
-    and_from (bytes_eq first name) (is_below dir path) (ap (λ b. bytes_eq b name) ((same_bytes-decides first second).0 front.0) ∙ back.0) (below_through dir up path front.1 back.1)
 
 pub has_below_through : (dir up : Names) (paths : List Names) → is_below dir up ≡ true → has_below paths up ≡ true → has_below paths dir ≡ true
 has_below_through dir up [] over has = has

@@ -1,5 +1,5 @@
 -- What an index of files in order says of their tree.
-use Rattle.std.proofs.Common.{◌≡◌, inl, inr, ℕ, Bool, true, false, cond, ◌||◌, List, [], ◌∷◌, ◌++◌, map, Option, Some, None, Ok, IsTrue, is_some, refl, sym, ap, ◌∙◌}
+use Rattle.std.proofs.Common.{◌≡◌, ◌⊎◌, inl, inr, ℕ, Bool, true, false, cond, ◌||◌, List, [], ◌∷◌, ◌++◌, map, Option, Some, None, Ok, IsTrue, is_some, refl, sym, ap, ◌∙◌}
 use Rattle.std.specs.Prelude.{bytes_eq, codes, option_map}
 use Rattle.std.specs.Bool.{passes}
 use Rattle.std.specs.BTreeMap.{get}
@@ -10,18 +10,20 @@ use Rattle.std.specs.List.{list_any}
 use Rattle.std.specs.Map.{keys_of}
 use Rattle.std.specs.Ordering.{eq_by_cmp}
 use Rattle.std.specs.Result.{result_ok}
+use Rattle.std.specs.declared.cmp.Ordering.TheVariants.{Equal}
 use Rattle.tup_path.specs.Gives.{GivesUnless}
 use Rattle.tup_path.specs.Name.{Names, Content}
-use Rattle.tup_path.specs.Order.{by_bytes, by_names, same_path, same_path-by_names}
+use Rattle.tup_path.specs.Order.{by_bytes, by_names, by_names-antisymmetric, same_path, same_path-by_names}
 use Rattle.tup_path.specs.Resolve.{above}
 use Rattle.tup_path.specs.Tree.{Tree}
 use Rattle.tup_path.proofs.Same.{same_path-decides, same_bytes-decides}
 use Rattle.tup_path.specs.declared.fault.PathFault.{PathFault}
 use Rattle.tup_path.specs.declared.fault.PathFault.TheVariants as path_fault
 use Rattle.tup_rule_line.specs.Glob.{in_order}
-use Rattle.tup_readings.specs.Sources.{is_source, tupfile, is_below, has_below, names_in_folder, folder_of}
+use Rattle.tup_readings.specs.Sources.{is_source, tupfile, has_tupfile, home, is_below, has_below, names_in_folder, folder_of}
 use Rattle.tup_readings.specs.Index.{AreTupfiles, FolderMap, names_of, AreFolders, AddsAbove, AddsFile, AddsFolders, or_none, AddsName}
-use Rattle.tup_readings.proofs.Below.{above_named, nothing_below, below_named, has_below_through, lasts, not_below_itself, none_in_it, or_false, with_file, with_top}
+use Rattle.tup_readings.proofs.Below.{above_named, last_item, nothing_below, below_named, has_below_through, lasts, not_below_itself, none_in_it, or_false, with_file, with_top}
+use Rattle.tup_readings.proofs.Homes.{home_own, home_above}
 
 -- ---- a path as its folder and its name
 
@@ -40,6 +42,26 @@ parted_none path rest last is (inr e) =
     let up : None ≡ result_ok (above path) = cc in
     let there : None ≡ Some rest = up ∙ ap (λ p. result_ok (above p)) is ∙ above_named rest last in
     cc
+
+-- the folder that a path lies in, as it is given
+pub parent_is : (path up : Names) → GivesUnless {T = Option Names} {E = PathFault} (Ok (Some up)) path_fault.Memory (Ok (result_ok (above path))) → (name : List ℕ) × (path ≡ up ++ name ∷ [])
+parent_is path up given = by (last_item path) given
+  where
+    by : (path ≡ []) ⊎ ((rest : Names) × (last : List ℕ) × (path ≡ rest ++ last ∷ []))
+        → GivesUnless {T = Option Names} {E = PathFault} (Ok (Some up)) path_fault.Memory (Ok (result_ok (above path))) → (name : List ℕ) × (path ≡ up ++ name ∷ [])
+    by (inl top) (inl e) = cc
+    by (inl top) (inr e) =
+        let there : Some up ≡ result_ok (above path) = cc in
+        let none : Some up ≡ None = there ∙ ap (λ p. result_ok (above p)) top in
+        cc
+    by (inr (rest, last, is)) found = (last, parted_some path rest up last last is refl found)
+
+pub no_parent : (path : Names) → GivesUnless {T = Option Names} {E = PathFault} (Ok None) path_fault.Memory (Ok (result_ok (above path))) → path ≡ []
+no_parent path given = by (last_item path)
+  where
+    by : (path ≡ []) ⊎ ((rest : Names) × (last : List ℕ) × (path ≡ rest ++ last ∷ [])) → path ≡ []
+    by (inl top) = top
+    by (inr (rest, last, is)) = parted_none path rest last is given
 
 -- ---- the tree of files in order
 
@@ -91,6 +113,19 @@ module _ (files : List (Names × Content)) (tree : Tree) (up : IsTrue (finite.is
       let path = tupfile dir in
       let tests : same_path path ≡ eq_by_cmp by_names path = λ i other. same_path-by_names path other i in
       are dir ∙ ap (λ (test : Names → Bool). list_any test (keys_of files)) tests ∙ ap (list_any (eq_by_cmp by_names path)) keys_are ∙ sym (finite.contains_key-keys tree path)
+
+  -- the home of a folder, as it is looked up
+  module _ (dirs : BTreeSet Names) (are : AreTupfiles (keys_of files) dirs) (dir : Names) where
+    pub home_here : (found : Names) → contains by_names dirs dir ≡ true → by_names dir found ≡ Equal → Some found ≡ home tree dir
+    home_here found there same = ap Some (sym (by_names-antisymmetric dir found same)) ∙ sym (home_own tree dir (sym (tupfile_has dirs are dir) ∙ there))
+
+    pub home_up : (up : Names) → contains by_names dirs dir ≡ false → (name : List ℕ) × (dir ≡ up ++ name ∷ []) → home tree up ≡ home tree dir
+    home_up up none (name, is) =
+        sym (home_above tree up name (ap (has_tupfile tree) (sym is) ∙ sym (tupfile_has dirs are dir) ∙ none)) ∙ ap (home tree) (sym is)
+
+    pub home_nowhere : contains by_names dirs dir ≡ false → dir ≡ [] → None ≡ home tree dir
+    home_nowhere none top =
+        sym (ap (λ b. cond b (Some []) None) (ap (has_tupfile tree) (sym top) ∙ sym (tupfile_has dirs are dir) ∙ none)) ∙ ap (home tree) (sym top)
 
 -- ---- one folder more
 

@@ -1,5 +1,6 @@
 pub mod Below
 pub mod Search
+pub mod Homes
 pub mod Indexed
 pub mod Logs
 pub mod Waits

@@ -21,8 +21,8 @@ use Rattle.tup_vars.specs.Table.{Entries}
 use Rattle.tup_query.specs.Log.{Log}
 use Rattle.tup_rule_line.specs.Glob.{names_among, in_order}
 use Rattle.tup_rule_line.specs.State.{made_by, is_made}
-use Rattle.tup_readings.specs.Sources.{is_source, has_below, has_tupfile}
-use Rattle.tup_readings.specs.Answers.{Readings, drafts_of, seen_drafts, made_kind, is_unread, unread, folder_told, awaited, answer}
+use Rattle.tup_readings.specs.Sources.{is_source, has_below, has_tupfile, home}
+use Rattle.tup_readings.specs.Answers.{Readings, drafts_of, other_drafts, seen_drafts, made_kind, is_unread, unread, folder_told, awaited, answer}
 use Rattle.tup_readings.specs.Readings.{IsAnswered, WaitsFor, IsLine, IsTurn}
 use Rattle.tup_readings.proofs.Lines.{turned}
 use Rattle.tup_readings.proofs.Waits.{awaited_is, awaited_elsewhere}
@@ -55,8 +55,8 @@ module _ (sources : Tree) (settings : Entries) (readings : Readings) (new : Name
       ap (λ b. cond b (Some dir) None) still
 
   -- a folder that needs no reading has the same rules
-  seen_more : (reader dir : Names) → unread sources readings reader dir ≡ None → seen_drafts more reader dir ≡ seen_drafts readings reader dir
-  seen_more reader dir e = by (same_path reader dir) (same_path dir new) refl refl
+  other_more : (reader dir : Names) → unread sources readings reader dir ≡ None → other_drafts more reader dir ≡ other_drafts readings reader dir
+  other_more reader dir e = by (same_path reader dir) (same_path dir new) refl refl
     where
       off : is_unread sources readings reader dir ≡ false
       off = unread-false (is_unread sources readings reader dir) dir e
@@ -76,6 +76,14 @@ module _ (sources : Tree) (settings : Entries) (readings : Readings) (new : Name
           let wrong : true ≡ false = sym on ∙ off in
           cc
 
+  seen_more : (reader dir : Names) → awaited sources readings reader (asks.Names dir) ≡ None → seen_drafts sources more reader dir ≡ seen_drafts sources readings reader dir
+  seen_more reader dir = at (home sources dir)
+    where
+      at : (found : Option Names) → option_and_then (unread sources readings reader) found ≡ None
+          → elim found as (λ _. List Draft) [ Some home ↦ other_drafts more reader home | None ↦ [] ] ≡ elim found as (λ _. List Draft) [ Some home ↦ other_drafts readings reader home | None ↦ [] ]
+      at None e = refl
+      at (Some home) e = other_more reader home e
+
   pub awaited_more : (reader : Names) (question : Question) → awaited sources readings reader question ≡ None → awaited sources more reader question ≡ None
   awaited_more reader question = at (folder_told sources question)
     where
@@ -89,14 +97,14 @@ module _ (sources : Tree) (settings : Entries) (readings : Readings) (new : Name
   answer_more reader (asks.Names dir) e = ap (λ (drafts : List Draft). told.Names (in_order (names_among dir (finite.keys sources ++ made_by drafts)))) (seen_more reader dir e)
   answer_more reader (asks.Kind path) e = ap (λ k. told.Kind k) (by (is_source sources path) (has_below (finite.keys sources) path) e)
     where
-      at : (up : Option Names) → option_and_then (unread sources readings reader) up ≡ None
-          → elim up as (λ _. Kind) [ Some dir ↦ made_kind more reader dir path | None ↦ Nothing ] ≡ elim up as (λ _. Kind) [ Some dir ↦ made_kind readings reader dir path | None ↦ Nothing ]
+      at : (up : Option Names) → option_and_then (unread sources readings reader) (option_and_then (home sources) up) ≡ None
+          → elim up as (λ _. Kind) [ Some dir ↦ made_kind sources more reader dir path | None ↦ Nothing ] ≡ elim up as (λ _. Kind) [ Some dir ↦ made_kind sources readings reader dir path | None ↦ Nothing ]
       at None e = refl
       at (Some dir) e = ap (λ (drafts : List Draft). cond (is_made drafts path) File Nothing) (seen_more reader dir e)
 
-      by : (one two : Bool) → option_and_then (unread sources readings reader) (cond (one || two) None (result_ok (above path))) ≡ None
-          → cond one File (cond two Dir (elim (result_ok (above path)) as (λ _. Kind) [ Some dir ↦ made_kind more reader dir path | None ↦ Nothing ]))
-          ≡ cond one File (cond two Dir (elim (result_ok (above path)) as (λ _. Kind) [ Some dir ↦ made_kind readings reader dir path | None ↦ Nothing ]))
+      by : (one two : Bool) → option_and_then (unread sources readings reader) (cond (one || two) None (option_and_then (home sources) (result_ok (above path)))) ≡ None
+          → cond one File (cond two Dir (elim (result_ok (above path)) as (λ _. Kind) [ Some dir ↦ made_kind sources more reader dir path | None ↦ Nothing ]))
+          ≡ cond one File (cond two Dir (elim (result_ok (above path)) as (λ _. Kind) [ Some dir ↦ made_kind sources readings reader dir path | None ↦ Nothing ]))
       by true two e = refl
       by false true e = refl
       by false false e = at (result_ok (above path)) e

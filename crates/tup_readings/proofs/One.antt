@@ -20,8 +20,8 @@ use Rattle.tup_query.specs.Log.{Log, noted_log}
 use Rattle.tup_rule_line.specs.Glob.{names_among, in_order}
 use Rattle.tup_rule_line.specs.State.{made_by, is_made}
 use Rattle.tup_tupfile.specs.Reading.{reading}
-use Rattle.tup_readings.specs.Sources.{is_source, has_below, has_tupfile}
-use Rattle.tup_readings.specs.Answers.{Readings, drafts_of, seen_drafts, made_kind, is_unread, unread, awaited, answer}
+use Rattle.tup_readings.specs.Sources.{is_source, has_below, has_tupfile, home}
+use Rattle.tup_readings.specs.Answers.{Readings, drafts_of, other_drafts, seen_drafts, made_kind, is_unread, unread, awaited, answer}
 use Rattle.tup_readings.specs.Readings.{IsAnswered, IsReadingOver, AreReadings, AreSomeReadings, AreAllReadings}
 use Rattle.tup_readings.proofs.More.{get_more}
 use Rattle.tup_readings.proofs.Alike.{ToldAlike, runs_alike}
@@ -55,9 +55,9 @@ module _ (sources : Tree) (settings : Entries) where
   read_or_not true false None off e = cc
 
   -- two folders' readings that agree show the same rules where none waits
-  seen_alike : (one other : Readings) → Agree one other → AreOfTupfiles one → AreOfTupfiles other → (reader dir : Names)
-      → unread sources one reader dir ≡ None → unread sources other reader dir ≡ None → seen_drafts one reader dir ≡ seen_drafts other reader dir
-  seen_alike one other agree here there reader dir e f = by (same_path reader dir) refl
+  other_alike : (one other : Readings) → Agree one other → AreOfTupfiles one → AreOfTupfiles other → (reader dir : Names)
+      → unread sources one reader dir ≡ None → unread sources other reader dir ≡ None → other_drafts one reader dir ≡ other_drafts other reader dir
+  other_alike one other agree here there reader dir e f = by (same_path reader dir) refl
     where
       flat : (b : Bool) → cond b (Some dir) None ≡ None → b ≡ false
       flat true e = cc
@@ -84,6 +84,15 @@ module _ (sources : Tree) (settings : Entries) where
           (read_or_not (has_tupfile sources dir) (same_path reader dir) (finite.get one dir) own off_one)
           (read_or_not (has_tupfile sources dir) (same_path reader dir) (finite.get other dir) own off_other)
 
+  seen_alike : (one other : Readings) → Agree one other → AreOfTupfiles one → AreOfTupfiles other → (reader dir : Names)
+      → awaited sources one reader (asks.Names dir) ≡ None → awaited sources other reader (asks.Names dir) ≡ None → seen_drafts sources one reader dir ≡ seen_drafts sources other reader dir
+  seen_alike one other agree here there reader dir = at (home sources dir)
+    where
+      at : (found : Option Names) → option_and_then (unread sources one reader) found ≡ None → option_and_then (unread sources other reader) found ≡ None
+          → elim found as (λ _. List Draft) [ Some home ↦ other_drafts one reader home | None ↦ [] ] ≡ elim found as (λ _. List Draft) [ Some home ↦ other_drafts other reader home | None ↦ [] ]
+      at None e f = refl
+      at (Some home) e f = other_alike one other agree here there reader home e f
+
   answers_alike : (one other : Readings) → Agree one other → AreOfTupfiles one → AreOfTupfiles other → (reader : Names) (question : Question)
       → awaited sources one reader question ≡ None → awaited sources other reader question ≡ None → answer sources settings one reader question ≡ answer sources settings other reader question
   answers_alike one other agree here there reader (asks.Content path) e f = refl
@@ -92,15 +101,15 @@ module _ (sources : Tree) (settings : Entries) where
       ap (λ (drafts : List Draft). told.Names (in_order (names_among dir (finite.keys sources ++ made_by drafts)))) (seen_alike one other agree here there reader dir e f)
   answers_alike one other agree here there reader (asks.Kind path) e f = ap (λ k. told.Kind k) (by (is_source sources path) (has_below (finite.keys sources) path) e f)
     where
-      at : (up : Option Names) → option_and_then (unread sources one reader) up ≡ None → option_and_then (unread sources other reader) up ≡ None
-          → elim up as (λ _. Kind) [ Some dir ↦ made_kind one reader dir path | None ↦ Nothing ] ≡ elim up as (λ _. Kind) [ Some dir ↦ made_kind other reader dir path | None ↦ Nothing ]
+      at : (up : Option Names) → option_and_then (unread sources one reader) (option_and_then (home sources) up) ≡ None → option_and_then (unread sources other reader) (option_and_then (home sources) up) ≡ None
+          → elim up as (λ _. Kind) [ Some dir ↦ made_kind sources one reader dir path | None ↦ Nothing ] ≡ elim up as (λ _. Kind) [ Some dir ↦ made_kind sources other reader dir path | None ↦ Nothing ]
       at None e f = refl
       at (Some dir) e f = ap (λ (drafts : List Draft). cond (is_made drafts path) File Nothing) (seen_alike one other agree here there reader dir e f)
 
-      by : (a b : Bool) → option_and_then (unread sources one reader) (cond (a || b) None (result_ok (above path))) ≡ None
-          → option_and_then (unread sources other reader) (cond (a || b) None (result_ok (above path))) ≡ None
-          → cond a File (cond b Dir (elim (result_ok (above path)) as (λ _. Kind) [ Some dir ↦ made_kind one reader dir path | None ↦ Nothing ]))
-          ≡ cond a File (cond b Dir (elim (result_ok (above path)) as (λ _. Kind) [ Some dir ↦ made_kind other reader dir path | None ↦ Nothing ]))
+      by : (a b : Bool) → option_and_then (unread sources one reader) (cond (a || b) None (option_and_then (home sources) (result_ok (above path)))) ≡ None
+          → option_and_then (unread sources other reader) (cond (a || b) None (option_and_then (home sources) (result_ok (above path)))) ≡ None
+          → cond a File (cond b Dir (elim (result_ok (above path)) as (λ _. Kind) [ Some dir ↦ made_kind sources one reader dir path | None ↦ Nothing ]))
+          ≡ cond a File (cond b Dir (elim (result_ok (above path)) as (λ _. Kind) [ Some dir ↦ made_kind sources other reader dir path | None ↦ Nothing ]))
       by true b e f = refl
       by false true e f = refl
       by false false e f = at (result_ok (above path)) e f

@@ -25,20 +25,28 @@ use Rattle.tup_rule_line.specs.State.{made_by}
 use Rattle.tup_rule_line.proofs.Globs.{in_order-more}
 use Rattle.tup_readings.specs.declared.fault.FoldersFault.{FoldersFault}
 use Rattle.tup_readings.specs.declared.fault.FoldersFault.TheVariants.{Parse}
-use Rattle.tup_readings.specs.Sources.{is_source, has_below, names_in_folder, settings_of}
-use Rattle.tup_readings.specs.Answers.{Readings, seen_drafts, names_in, made_kind, kind_at, unread, awaited}
+use Rattle.tup_readings.specs.Sources.{is_source, has_below, home, names_in_folder, settings_of}
+use Rattle.tup_readings.specs.Answers.{Readings, other_drafts, seen_drafts, names_in, made_kind, kind_at, unread, awaited}
 use Rattle.tup_readings.specs.Readings.{IsConfig}
 use Rattle.tup_readings.proofs.Below.{above_named}
 
 -- the names of the sources in a folder, and those of the outputs there
 pub names_told : (sources : Tree) (readings : Readings) (reader dir : Names) (drafts : List Draft) (keys made listed : List (List ℕ)) → listed ≡ made
-    → made ≡ fold (insert_key by_bytes) keys (names_among dir (made_by drafts)) → keys ≡ names_in_folder (finite.keys sources) dir → drafts ≡ seen_drafts readings reader dir
+    → made ≡ fold (insert_key by_bytes) keys (names_among dir (made_by drafts)) → keys ≡ names_in_folder (finite.keys sources) dir → drafts ≡ seen_drafts sources readings reader dir
     → listed ≡ names_in sources readings reader dir
 names_told sources readings reader dir drafts keys made listed is added before seen =
     is ∙ added ∙ ap (λ (names : List (List ℕ)). fold (insert_key by_bytes) names (names_among dir (made_by drafts))) before
     ∙ sym (in_order-more None (names_among dir (finite.keys sources)) (names_among dir (made_by drafts)))
     ∙ ap in_order (sym (filter_map-append (name_in dir) (finite.keys sources) (made_by drafts)))
     ∙ ap (λ (ds : List Draft). in_order (names_among dir (finite.keys sources ++ made_by ds))) seen
+
+-- where the home of a folder is found, its rules are those that are seen there, and an answer about the folder waits for it
+module _ (sources : Tree) (readings : Readings) (reader dir : Names) (found : Option Names) (is : found ≡ home sources dir) where
+  pub seen_is : elim found as (λ _. List Draft) [ Some home ↦ other_drafts readings reader home | None ↦ [] ] ≡ seen_drafts sources readings reader dir
+  seen_is = ap (λ (folder : Option Names). elim folder as (λ _. List Draft) [ Some home ↦ other_drafts readings reader home | None ↦ [] ]) is
+
+  pub waits_for_home : option_and_then (unread sources readings reader) found ≡ awaited sources readings reader (asks.Names dir)
+  waits_for_home = ap (option_and_then (unread sources readings reader)) is
 
 no_source : {A : Type 0} (found : Option (Bor A)) (there : Option A) → option_copied found ≡ there → is_some found ≡ false → is_some there ≡ false
 no_source None there e off = ap is_some (sym e)
@@ -51,17 +59,17 @@ module _ (sources : Tree) (readings : Readings) (reader path dir : Names) (name 
   up : result_ok (above path) ≡ Some dir
   up = ap (λ p. result_ok (above p)) is ∙ above_named dir name
 
-  pub kind_is : made_kind readings reader dir path ≡ kind_at sources readings reader path
+  pub kind_is : made_kind sources readings reader dir path ≡ kind_at sources readings reader path
   kind_is = sym (
-      ap (λ b. cond b File (cond (has_below (finite.keys sources) path) Dir (elim (result_ok (above path)) as (λ _. Kind) [ Some dir ↦ made_kind readings reader dir path | None ↦ Nothing ]))) no_file
-      ∙ ap (λ b. cond b Dir (elim (result_ok (above path)) as (λ _. Kind) [ Some dir ↦ made_kind readings reader dir path | None ↦ Nothing ])) no_dir
-      ∙ ap (λ (folder : Option Names). elim folder as (λ _. Kind) [ Some dir ↦ made_kind readings reader dir path | None ↦ Nothing ]) up)
+      ap (λ b. cond b File (cond (has_below (finite.keys sources) path) Dir (elim (result_ok (above path)) as (λ _. Kind) [ Some dir ↦ made_kind sources readings reader dir path | None ↦ Nothing ]))) no_file
+      ∙ ap (λ b. cond b Dir (elim (result_ok (above path)) as (λ _. Kind) [ Some dir ↦ made_kind sources readings reader dir path | None ↦ Nothing ])) no_dir
+      ∙ ap (λ (folder : Option Names). elim folder as (λ _. Kind) [ Some dir ↦ made_kind sources readings reader dir path | None ↦ Nothing ]) up)
 
-  pub kind_waits : awaited sources readings reader (asks.Kind path) ≡ unread sources readings reader dir
+  pub kind_waits : awaited sources readings reader (asks.Kind path) ≡ awaited sources readings reader (asks.Names dir)
   kind_waits =
-      ap (λ b. option_and_then (unread sources readings reader) (cond (b || has_below (finite.keys sources) path) None (result_ok (above path)))) no_file
-      ∙ ap (λ b. option_and_then (unread sources readings reader) (cond b None (result_ok (above path)))) no_dir
-      ∙ ap (option_and_then (unread sources readings reader)) up
+      ap (λ b. option_and_then (unread sources readings reader) (cond (b || has_below (finite.keys sources) path) None (option_and_then (home sources) (result_ok (above path))))) no_file
+      ∙ ap (λ b. option_and_then (unread sources readings reader) (cond b None (option_and_then (home sources) (result_ok (above path))))) no_dir
+      ∙ ap (λ (folder : Option Names). option_and_then (unread sources readings reader) (option_and_then (home sources) folder)) up
 
 -- ---- what tup.config sets
 

@@ -11,8 +11,9 @@ use Rattle.tup_path.specs.Tree.{Tree}
 use Rattle.tup_rule.specs.declared.question.Question.{Question}
 use Rattle.tup_rule.specs.declared.question.Question.TheVariants as asks
 use Rattle.tup_rule.specs.declared.question.Reading.{Reading}
-use Rattle.tup_readings.specs.Sources.{is_source, has_below, has_tupfile}
+use Rattle.tup_readings.specs.Sources.{is_source, has_below, has_tupfile, home}
 use Rattle.tup_readings.specs.Answers.{Readings, is_unread, unread, folder_told, awaited}
+use Rattle.tup_readings.proofs.Homes.{homes_alike}
 
 none_there : (found : Option Reading) → is_none found ≡ true → found ≡ None
 none_there None e = refl
@@ -50,23 +51,31 @@ pub awaits : (sources : Tree) (readings : Readings) (reader next : Names) (dir :
 awaits sources readings reader next None e = cc
 awaits sources readings reader next (Some dir) e = let is = unread_is sources readings reader dir next e in (ap (λ d. Some d) is.0, is.1)
 
--- an answer that waits does so for the folder of whose files it tells
+-- an answer that waits does so for the folder of whose rules it tells
 pub awaited_is : (sources : Tree) (readings : Readings) (reader next : Names) (question : Question) → awaited sources readings reader question ≡ Some next
     → (folder_told sources question ≡ Some next) × IsUnread sources readings reader next
 awaited_is sources readings reader next question e = awaits sources readings reader next (folder_told sources question) e
 
--- that one is given by the question
-pub one_folder : (one other : Tree) (question : Question) (dir next : Names) → folder_told one question ≡ Some dir → folder_told other question ≡ Some next → dir ≡ next
-one_folder one other (asks.Content path) dir next e f = cc
-one_folder one other (asks.Config name) dir next e f = cc
-one_folder one other (asks.Names folder) dir next e f = let s : Some dir ≡ Some next = sym e ∙ f in cc
-one_folder one other (asks.Kind path) dir next e f =
-    let s : Some dir ≡ Some next = sym (the (is_source one path || has_below (finite.keys one) path) dir e) ∙ the (is_source other path || has_below (finite.keys other) path) next f in
+-- that one is given by the question, over trees in which the same folders have a Tupfile
+pub one_folder : (one other : Tree) → ((dir : Names) → has_tupfile one dir ≡ has_tupfile other dir) → (question : Question) (dir next : Names)
+    → folder_told one question ≡ Some dir → folder_told other question ≡ Some next → dir ≡ next
+one_folder one other same (asks.Content path) dir next e f = cc
+one_folder one other same (asks.Config name) dir next e f = cc
+one_folder one other same (asks.Names folder) dir next e f = let s : Some dir ≡ Some next = sym e ∙ homes_alike one other same folder ∙ f in cc
+one_folder one other same (asks.Kind path) dir next e f =
+    let s : Some dir ≡ Some next =
+    sym (the (is_source one path || has_below (finite.keys one) path) (option_and_then (home one) (result_ok (above path))) dir e)
+    ∙ alike (result_ok (above path))
+    ∙ the (is_source other path || has_below (finite.keys other) path) (option_and_then (home other) (result_ok (above path))) next f in
     cc
   where
-    the : (b : Bool) (dir : Names) → cond b None (result_ok (above path)) ≡ Some dir → result_ok (above path) ≡ Some dir
-    the true dir e = cc
-    the false dir e = e
+    the : (b : Bool) (found : Option Names) (dir : Names) → cond b None found ≡ Some dir → found ≡ Some dir
+    the true found dir e = cc
+    the false found dir e = e
+
+    alike : (up : Option Names) → option_and_then (home one) up ≡ option_and_then (home other) up
+    alike None = refl
+    alike (Some dir) = homes_alike one other same dir
 
 -- it waits over other readings too in which that folder isn't
 pub awaited_elsewhere : (sources : Tree) (readings others : Readings) (reader next : Names) (question : Question) → awaited sources readings reader question ≡ Some next → finite.get others next ≡ None

@@ -1,5 +1,6 @@
--- What the sources, and the readings of other folders, answer to the reading of a folder. That a folder's own outputs are
--- added by its own reading, and that answers wait for the readings of other folders, is own; the rest is the manual's.
+-- What the sources, and the readings of other folders, answer to the reading of a folder. The files that rules make in a folder are those
+-- of its home. That a folder's own outputs are added by its own reading, and that answers wait for the readings of other folders, is
+-- own; the rest is the manual's.
 use Rattle.std.specs.Prelude.{ℕ, Bool, not, ◌&&◌, ◌||◌, if◌then◌else◌, List, [], ◌++◌, Option, Some, None, is_none, option_and_then}
 use Rattle.std.specs.FinMap as finite
 use Rattle.std.specs.Result.{result_ok}
@@ -18,7 +19,7 @@ use Rattle.tup_rule.specs.declared.question.Told.TheVariants as told
 use Rattle.tup_vars.specs.Table.{Entries, look}
 use Rattle.tup_rule_line.specs.Glob.{names_among, in_order}
 use Rattle.tup_rule_line.specs.State.{made_by, is_made}
-use Rattle.tup_readings.specs.Sources.{is_source, has_below, has_tupfile}
+use Rattle.tup_readings.specs.Sources.{is_source, has_below, has_tupfile, home}
 
 -- the readings of folders so far
 abbrev pub Readings : Type 0
@@ -29,23 +30,28 @@ abbrev pub drafts_of : Readings → Names → List Draft
 drafts_of readings dir = elim (finite.get readings dir) [ Some reading ↦ reading.drafts | None ↦ [] ]
 
 -- the rules of another folder that the reading of a folder sees; of its own it sees none here
-abbrev pub seen_drafts : Readings → Names → Names → List Draft
-seen_drafts readings reader dir = if same_path reader dir then [] else drafts_of readings dir
+abbrev pub other_drafts : Readings → Names → Names → List Draft
+other_drafts readings reader dir = if same_path reader dir then [] else drafts_of readings dir
 
--- the names of the files in a folder, in byte order: sources, and outputs of another folder's rules
+-- the rules that may make files in a folder, as the reading of a folder sees them: those of its home
+abbrev pub seen_drafts : Tree → Readings → Names → Names → List Draft
+seen_drafts sources readings reader dir = elim (home sources dir) [ Some home ↦ other_drafts readings reader home | None ↦ [] ]
+
+-- the names of the files in a folder, in byte order: sources, and outputs of the rules of its home, where that is another folder
 abbrev pub names_in : Tree → Readings → Names → Names → List (List ℕ)
-names_in sources readings reader dir = in_order (names_among dir (finite.keys sources ++ made_by (seen_drafts readings reader dir)))
+names_in sources readings reader dir = in_order (names_among dir (finite.keys sources ++ made_by (seen_drafts sources readings reader dir)))
 
--- what a folder's rules make at a path, where that folder is another one
-abbrev pub made_kind : Readings → Names → Names → Names → Kind
-made_kind readings reader dir path = if is_made (seen_drafts readings reader dir) path then File else Nothing
+-- what the rules of a folder's home make at a path, where that home is another folder
+abbrev pub made_kind : Tree → Readings → Names → Names → Names → Kind
+made_kind sources readings reader dir path = if is_made (seen_drafts sources readings reader dir) path then File else Nothing
 
--- what stands at a path: a source, else a folder of sources, else an output of the rules of its folder, where that is another one
+-- what stands at a path: a source, else a folder of sources, else an output of the rules of its folder's home, where that is another
+-- folder
 abbrev pub kind_at : Tree → Readings → Names → Names → Kind
 kind_at sources readings reader path =
     if is_source sources path then File
     else if has_below (finite.keys sources) path then Dir
-    else elim (result_ok (above path)) [ Some dir ↦ made_kind readings reader dir path | None ↦ Nothing ]
+    else elim (result_ok (above path)) [ Some dir ↦ made_kind sources readings reader dir path | None ↦ Nothing ]
 
 -- whether a folder has to be read before it is asked about: another one that has a Tupfile and wasn't read yet
 abbrev pub is_unread : Tree → Readings → Names → Names → Bool
@@ -55,11 +61,12 @@ is_unread sources readings reader dir = not (same_path reader dir) && has_tupfil
 abbrev pub unread : Tree → Readings → Names → Names → Option Names
 unread sources readings reader dir = if is_unread sources readings reader dir then Some dir else None
 
--- the folder of whose files an answer tells: that whose names are asked, or that of a path at which no source stands and no folder
--- of sources
+-- the folder of whose rules an answer tells: the home of that whose names are asked, or of that of a path at which no source stands and
+-- no folder of sources
 abbrev pub folder_told : Tree → Question → Option Names
-folder_told sources (asks.Names dir) = Some dir
-folder_told sources (asks.Kind path) = if is_source sources path || has_below (finite.keys sources) path then None else result_ok (above path)
+folder_told sources (asks.Names dir) = home sources dir
+folder_told sources (asks.Kind path) =
+    if is_source sources path || has_below (finite.keys sources) path then None else option_and_then (home sources) (result_ok (above path))
 folder_told sources _ = None
 
 -- the folder for whose reading an answer waits

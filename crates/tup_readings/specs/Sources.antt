@@ -1,5 +1,6 @@
 -- What the sources of a project say of its folders (own).
-use Rattle.std.specs.Prelude.{ℕ, Bool, true, false, ◌&&◌, bytes_eq, if◌then◌else◌, List, [], ◌∷◌, ◌++◌, codes, Option, Some, None, is_some, unwrap_or, Result}
+pub use Rattle.tup_rule_line.specs.Below.{is_below}
+use Rattle.std.specs.Prelude.{ℕ, Bool, if◌then◌else◌, List, [], ◌∷◌, ◌++◌, codes, Option, Some, None, is_some, unwrap_or, Result}
 use Rattle.std.specs.List.{list_any}
 use Rattle.std.specs.FinMap as finite
 use Rattle.tup_path.specs.Name.{Names}
@@ -21,12 +22,18 @@ tupfile dir = dir ++ codes "Tupfile" ∷ []
 abbrev pub has_tupfile : Tree → Names → Bool
 has_tupfile sources dir = is_source sources (tupfile dir)
 
--- whether a path lies below a folder, at whatever depth
-abbrev pub is_below : Names → Names → Bool
-is_below [] [] = false
-is_below [] (name ∷ path) = true
-is_below (first ∷ folder) [] = false
-is_below (first ∷ folder) (name ∷ path) = bytes_eq first name && is_below folder path
+-- a folder, if it has a Tupfile, else what stands in its place
+abbrev pub own_or : Tree → Option Names → Names → Option Names
+own_or sources other dir = if has_tupfile sources dir then Some dir else other
+
+-- the last folder with a Tupfile on the way from a folder down some names, else what stands in its place
+abbrev pub last_home : Tree → Option Names → Names → Names → Option Names
+last_home sources other dir [] = own_or sources other dir
+last_home sources other dir (name ∷ names) = last_home sources (own_or sources other dir) (dir ++ name ∷ []) names
+
+-- the home of a folder: the nearest folder at or above it that has a Tupfile. Its rules alone may make files in the folder
+abbrev pub home : Tree → Names → Option Names
+home sources dir = last_home sources None [] dir
 
 -- whether one of these paths lies below a folder
 abbrev pub has_below : List Names → Names → Bool

@@ -1,7 +1,8 @@
 //! Who answers what the reading of a folder asks.
-ghost use Rattle.std.specs.Prelude.{◌≡◌, IfOk, IfErr, None};
+ghost use Rattle.std.specs.Prelude.{◌≡◌, IfOk, IfErr, None, if◌then◌else◌};
 ghost use Rattle.std.specs.FinMap as finite;
 ghost use Rattle.tup_readings.specs.Answers as specs;
+ghost use Rattle.tup_rule.specs.declared.question.Kind.TheVariants.{File, Nothing};
 ghost use Rattle.tup_rule.specs.declared.question.Question.TheVariants as asks;
 ghost use Rattle.tup_rule.specs.declared.question.Told.TheVariants as told;
 ghost use Rattle.tup_rule_line.specs.Making.{is_made};
@@ -110,12 +111,12 @@ impl Asked<'_, '_> {
     fn names(&self, alloc: Global, dir: &Path) -> Result<Told, Stop>
         ensures told { IfOk result (λ found. found ≡ told.Names (specs.names_in self.now.sources.now
             self.now.readings.now self.now.reader.now dir.now)) }
-        ensures ready { IfOk result (λ told. specs.unread self.now.sources.now
-            self.now.readings.now self.now.reader.now dir.now ≡ None) }
-        ensures waits { IfErr result (IsWait (specs.unread self.now.sources.now
-            self.now.readings.now self.now.reader.now dir.now)) }
+        ensures ready { IfOk result (λ told. specs.awaited self.now.sources.now
+            self.now.readings.now self.now.reader.now (asks.Names dir.now) ≡ None) }
+        ensures waits { IfErr result (IsWait (specs.awaited self.now.sources.now
+            self.now.readings.now self.now.reader.now (asks.Names dir.now))) }
     {
-        let drafts = self.seen_drafts(dir)?;
+        let drafts = self.seen_drafts(alloc, dir)?;
         let mut names = self.sources.names(alloc, dir)?;
         add_made(&mut names, dir, drafts)?;
         Ok(Told::Names(listed(alloc, names)?))
@@ -137,22 +138,37 @@ impl Asked<'_, '_> {
             return Ok(Told::Kind(Kind::Dir));
         }
         match parted(alloc, path)? {
-            Some((dir, _)) => self.kind_in(&dir, path),
+            Some((dir, _)) => self.kind_in(alloc, &dir, path),
             None => Ok(Told::Kind(Kind::Nothing)),
         }
     }
 
     /// What stands at a path of a folder where no source is.
-    fn kind_in(&self, dir: &Path, path: &Path) -> Result<Told, Stop>
+    fn kind_in(&self, alloc: Global, dir: &Path, path: &Path) -> Result<Told, Stop>
         ensures told { IfOk result (λ found. found ≡ told.Kind (specs.made_kind
-            self.now.readings.now self.now.reader.now dir.now path.now)) }
-        ensures ready { IfOk result (λ told. specs.unread self.now.sources.now
-            self.now.readings.now self.now.reader.now dir.now ≡ None) }
-        ensures waits { IfErr result (IsWait (specs.unread self.now.sources.now
-            self.now.readings.now self.now.reader.now dir.now)) }
+            self.now.sources.now self.now.readings.now self.now.reader.now dir.now path.now)) }
+        ensures ready { IfOk result (λ told. specs.awaited self.now.sources.now
+            self.now.readings.now self.now.reader.now (asks.Names dir.now) ≡ None) }
+        ensures waits { IfErr result (IsWait (specs.awaited self.now.sources.now
+            self.now.readings.now self.now.reader.now (asks.Names dir.now))) }
     {
-        self.seen_drafts(dir)?;
-        Ok(Told::Kind(if self.sees_made(dir, path) {
+        match self.sources.home(alloc, dir)? {
+            Some(home) => self.other_kind(home, path),
+            None => Ok(Told::Kind(Kind::Nothing)),
+        }
+    }
+
+    /// What the rules of another folder make at a path.
+    fn other_kind(&self, home: &Path, path: &Path) -> Result<Told, Stop>
+        ensures told { IfOk result (λ found. found ≡ told.Kind (if is_made (specs.other_drafts
+            self.now.readings.now self.now.reader.now home.now) path.now then File else Nothing)) }
+        ensures ready { IfOk result (λ told. specs.unread self.now.sources.now
+            self.now.readings.now self.now.reader.now home.now ≡ None) }
+        ensures waits { IfErr result (IsWait (specs.unread self.now.sources.now
+            self.now.readings.now self.now.reader.now home.now)) }
+    {
+        self.other_drafts(home)?;
+        Ok(Told::Kind(if self.other_makes(home, path) {
             Kind::File
         } else {
             Kind::Nothing
@@ -160,28 +176,43 @@ impl Asked<'_, '_> {
     }
 
     /// Whether the rules of another folder make a path. They are looked up, not walked.
-    fn sees_made(&self, dir: &Path, path: &Path) -> bool
-        ensures { result ≡ is_made (specs.seen_drafts self.now.readings.now self.now.reader.now
-            dir.now) path.now }
+    fn other_makes(&self, home: &Path, path: &Path) -> bool
+        ensures { result ≡ is_made (specs.other_drafts self.now.readings.now self.now.reader.now
+            home.now) path.now }
     {
-        self.reader != dir && self.readings.makes(dir, path)
+        self.reader != home && self.readings.makes(home, path)
+    }
+
+    /// The rules that may make files in a folder: those of its home.
+    fn seen_drafts(&self, alloc: Global, dir: &Path) -> Result<&[Draft], Stop>
+        ensures seen { IfOk result (λ drafts. drafts.now ≡ specs.seen_drafts
+            self.now.sources.now self.now.readings.now self.now.reader.now dir.now) }
+        ensures ready { IfOk result (λ drafts. specs.awaited self.now.sources.now
+            self.now.readings.now self.now.reader.now (asks.Names dir.now) ≡ None) }
+        ensures waits { IfErr result (IsWait (specs.awaited self.now.sources.now
+            self.now.readings.now self.now.reader.now (asks.Names dir.now))) }
+    {
+        match self.sources.home(alloc, dir)? {
+            Some(home) => self.other_drafts(home),
+            None => Ok(&[]),
+        }
     }
 
     /// The rules of another folder's reading; of its own the reading knows itself.
-    fn seen_drafts(&self, dir: &Path) -> Result<&[Draft], Stop>
+    fn other_drafts(&self, home: &Path) -> Result<&[Draft], Stop>
         ensures seen { IfOk result (λ drafts. drafts.now
-            ≡ specs.seen_drafts self.now.readings.now self.now.reader.now dir.now) }
+            ≡ specs.other_drafts self.now.readings.now self.now.reader.now home.now) }
         ensures ready { IfOk result (λ drafts. specs.unread self.now.sources.now
-            self.now.readings.now self.now.reader.now dir.now ≡ None) }
+            self.now.readings.now self.now.reader.now home.now ≡ None) }
         ensures waits { IfErr result (IsWait (specs.unread self.now.sources.now
-            self.now.readings.now self.now.reader.now dir.now)) }
+            self.now.readings.now self.now.reader.now home.now)) }
     {
-        if self.reader == dir {
+        if self.reader == home {
             return Ok(&[]);
         }
-        match self.readings.get(dir) {
+        match self.readings.get(home) {
             Some(reading) => Ok(reading.drafts.as_slice()),
-            None if self.sources.has_tupfile(dir) => Err(Stop::Awaits(dir.clone()?)),
+            None if self.sources.has_tupfile(home) => Err(Stop::Awaits(home.clone()?)),
             None => Ok(&[]),
         }
     }

@@ -11,8 +11,8 @@ pub enum FoldersFault {
     /// for a folder.
     #[error("{0}")]
     Parse(ParseFault),
-    /// Folders that wait for each other: each asks about the files of the next one, and the last
-    /// one about the first's.
+    /// Folders that wait for each other: each asks about files that the next one's rules may make,
+    /// and the last one about such files of the first.
     #[error("folders wait for each other")]
     Circular(Paths),
     /// There was no memory; nothing is known of the folders.

@@ -99,6 +99,20 @@ impl<'f> Sources<'f> {
         self.tupfiles.contains(dir)
     }
 
+    /// The home of a folder: the nearest folder at or above it that has a Tupfile.
+    pub fn home(&self, alloc: Global, dir: &Path) -> Result<Option<&Path>, AllocError>
+        ensures { IfOk result (λ home. option_copied home ≡ specs.home self.now dir.now) }
+    {
+        if let Some(home) = self.tupfiles.get(dir) {
+            return Ok(Some(home));
+        }
+        match dir.parent(alloc) {
+            Ok(Some(up)) => self.home(alloc, &up),
+            Ok(None) => Ok(None),
+            Err(_) => Err(AllocError),
+        }
+    }
+
     /// The folders that have a Tupfile.
     pub(crate) fn tupfiles(&self) -> Result<BTreeSet<Path>, AllocError>
         ensures { IfOk result (λ dirs. (dir : Names)

@@ -9,6 +9,7 @@ pub mod Recorded
 pub mod Recording
 pub mod Ordering
 pub mod Untouched
+pub mod Waiting
 pub mod Outlined
 pub mod Told
 pub mod Hollow
@@ -17,4 +18,5 @@ pub mod Outlining
 pub mod Outcome
 pub mod Causes
 pub mod Staying
+pub mod Upward
 pub mod Idling

@@ -19,23 +19,23 @@ use Rattle.tup_query.specs.Log.{Log, Ran, Halts, Says, StopsAt, fits, noted_log}
 use Rattle.tup_tupfile.specs.Read.{IsToldBy}
 use Rattle.tup_tupfile.specs.Reading.{reading}
 use Rattle.tup_readings.specs.Answers.{Readings, awaited, answer}
-use Rattle.tup_readings.specs.Asked.{misfit, answer_or_misfit, waits_for}
+use Rattle.tup_readings.specs.Asked.{answer_or_misfit, waits_for}
 use Rattle.tup_readings.specs.Readings.{IsReadingOver, IsFaultOver}
 use Rattle.tup_readings.specs.Sources.{has_tupfile}
 use Rattle.tup_readings.specs.declared.fault.FoldersFault.{FoldersFault}
-use Rattle.tup_readings.proofs.Answered.{answer_fits, answered, told_where_ready, waits_for-refl, told_where_waiting}
+use Rattle.tup_readings.proofs.Answered.{answer_fits, answered, waits_for-refl}
 use Rattle.tup_readings.proofs.Logs.{AllFit, fit_from_start, fit_where_it_stands}
 use Rattle.tup_readings.proofs.Stops.{read_over, fault_over}
-use Rattle.tup_readings.proofs.Waits.{awaited_is, one_folder}
 use Rattle.tup_refresh.specs.declared.asking.Halt.{Halt}
 use Rattle.tup_refresh.specs.declared.asking.Halt.TheVariants.{Lacks, Awaits, Memory}
 use Rattle.tup_refresh.specs.declared.fetched.Fetched.{Fetched}
 use Rattle.tup_refresh.specs.declared.found.Found.{Found}
 use Rattle.tup_refresh.specs.declared.found.Found.TheVariants as found
-use Rattle.tup_refresh.specs.Asking.{told_or_misfit, IsHalt, halted_at}
+use Rattle.tup_refresh.specs.Asking.{waiting, answer_or_waiting, told_or_misfit, IsHalt, halted_at}
 use Rattle.tup_refresh.specs.Found.{HasRead, IsLack, come_of_halt}
 use Rattle.tup_refresh.specs.Part.{AreFetched, HasPaths}
 use Rattle.tup_refresh.proofs.Outlined.{IsOfPaths, awaited_alike, told_names_alike, told_kind_alike}
+use Rattle.tup_refresh.proofs.Waiting.{answer_where_ready, where_waiting, waiting_unfit, one_waited, fits_where_ready}
 
 -- what is kept says why there was no answer
 pub halt_is : (outline : Tree) (readings : Readings) (reader : Names) (fetched : Fetched) (question : Question) (halt : Halt) → IsHalt outline readings reader fetched question halt
@@ -46,10 +46,10 @@ halt_is outline readings reader fetched question Memory is = refl
 
 -- what isn't about a content is told by the paths of the sources
 pub told_by_paths : (outline : Tree) (settings : Entries) (readings : Readings) (reader : Names) (fetched : Fetched) (question : Question) (result : Result Told Halt) → IsOfPaths question
-    → IfOk result (λ told. told ≡ answer_or_misfit outline settings readings reader question) → IfOk result (λ told. told ≡ told_or_misfit outline settings readings reader fetched question)
+    → IfOk result (λ told. told ≡ answer_or_waiting outline settings readings reader question) → IfOk result (λ told. told ≡ told_or_misfit outline settings readings reader fetched question)
 told_by_paths outline settings readings reader fetched question result of is = subst (λ (given : Told). IfOk result (λ told. told ≡ given)) (same question of) is
   where
-    same : (question : Question) → IsOfPaths question → answer_or_misfit outline settings readings reader question ≡ told_or_misfit outline settings readings reader fetched question
+    same : (question : Question) → IsOfPaths question → answer_or_waiting outline settings readings reader question ≡ told_or_misfit outline settings readings reader fetched question
     same (asks.Content path) of = absurd of
     same (asks.Config name) of = refl
     same (asks.Names dir) of = refl
@@ -67,8 +67,8 @@ module _ (sources outline : Tree) (settings : Entries) (readings : Readings) (re
       by true on is = let wrong : false ≡ true = ap (fits (asks.Content path)) is ∙ fit in cc
       by false off is = ap (λ c. told.Content c) (sym (are.known path off)) ∙ is
   told_so (asks.Config name) given is fit = is
-  told_so (asks.Names dir) given is fit = sym (told_names_alike sources outline paths readings reader settings dir) ∙ is
-  told_so (asks.Kind path) given is fit = sym (told_kind_alike sources outline paths readings reader settings path) ∙ is
+  told_so (asks.Names dir) given is fit = sym (told_names_alike sources outline paths readings reader settings dir) ∙ fits_where_ready outline settings readings reader (asks.Names dir) given is fit
+  told_so (asks.Kind path) given is fit = sym (told_kind_alike sources outline paths readings reader settings path) ∙ fits_where_ready outline settings readings reader (asks.Kind path) given is fit
 
   says_so : (log : Log) → Says tells log → AllFit log → Says (answer_or_misfit sources settings readings reader) log
   says_so log says fit question given e = told_so question given (says question given e) (fit question given e)
@@ -111,26 +111,26 @@ module _ (outline after : Tree) (settings set : Entries) (readings others : Read
       by None h = cc
       by (Some dir) h = ap (λ d. Some d) ((same_path-decides dir next).0 h)
 
-  waits_at : (next : Names) (question : Question) → answer_or_misfit after set others other question ≡ answer_or_misfit outline settings readings reader question → fits question (misfit question) ≡ false
+  waits_at : (next : Names) (question : Question) → answer_or_waiting after set others other question ≡ answer_or_waiting outline settings readings reader question
       → awaited after others other question ≡ Some next → awaited outline readings reader question ≡ Some next
-  waits_at next question told unfit there = by (awaited outline readings reader question) refl
+  waits_at next question told there = by (awaited outline readings reader question) refl
     where
+      here : answer_or_waiting outline settings readings reader question ≡ waiting question next
+      here = sym told ∙ where_waiting after set others other question next there
+
       by : (found : Option Names) → awaited outline readings reader question ≡ found → awaited outline readings reader question ≡ Some next
-      by (Some dir) e =
-          let here = awaited_is outline readings reader dir question e in
-          let then = awaited_is after others other next question there in
-          e ∙ ap (λ d. Some d) (one_folder outline after question dir next here.0 then.0)
+      by (Some dir) e = e ∙ ap (λ d. Some d) (one_waited question dir next (sym (where_waiting outline settings readings reader question dir e) ∙ here))
       by None e =
-          let is : answer outline settings readings reader question ≡ misfit question = sym (told_where_ready outline settings readings reader question e) ∙ sym told ∙ told_where_waiting after set others other next question there in
-          let wrong : true ≡ false = sym (answer_fits outline settings readings reader question) ∙ ap (fits question) is ∙ unfit in
+          let is : answer outline settings readings reader question ≡ waiting question next = sym (answer_where_ready outline settings readings reader question e) ∙ here in
+          let wrong : true ≡ false = sym (answer_fits outline settings readings reader question) ∙ ap (fits question) is ∙ waiting_unfit question next in
           cc
 
   -- and it waited for the same folder
   pub waited_before : (next : Names) (question : Question) → IsTrue (waits_for after others other next question) → awaited outline readings reader question ≡ Some next
   waited_before next (asks.Content path) at = let wrong = waits_true next (asks.Content path) at in cc
   waited_before next (asks.Config name) at = let wrong = waits_true next (asks.Config name) at in cc
-  waited_before next (asks.Names dir) at = waits_at next (asks.Names dir) (alike (asks.Names dir)) refl (waits_true next (asks.Names dir) at)
-  waited_before next (asks.Kind path) at = waits_at next (asks.Kind path) (alike (asks.Kind path)) refl (waits_true next (asks.Kind path) at)
+  waited_before next (asks.Names dir) at = waits_at next (asks.Names dir) (alike (asks.Names dir)) (waits_true next (asks.Names dir) at)
+  waited_before next (asks.Kind path) at = waits_at next (asks.Kind path) (alike (asks.Kind path)) (waits_true next (asks.Kind path) at)
 
   -- what came of it
   pub came_so : (sources : Tree) (result : Result Found FoldersFault) (halt : Option Halt) (log : Log) (question : Question) → HasPaths sources outline → AreFetched sources fetched → IsTrue (has_tupfile sources reader)

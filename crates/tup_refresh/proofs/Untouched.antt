@@ -1,17 +1,16 @@
 -- What isn't flagged, and leads to nothing that is, isn't read.
 use Rattle.std.proofs.Common.{◌≡◌, ◌≢◌, ◌↔◌, inl, inr, ℕ, zero, suc, Bool, true, false, cond, not, ◌&&◌, ◌||◌, List, [], ◌∷◌, ◌++◌, Option, Some, None, is_some, is_none, IsSome, IsTrue, Result, Ok, Err, refl, sym, ap, ◌∙◌, subst, arith}
-use Rattle.std.specs.Prelude.{bytes_eq, option_and_then, unwrap_or}
+use Rattle.std.specs.Prelude.{option_and_then, unwrap_or}
 use Rattle.std.specs.FinMap as finite
 use Rattle.std.specs.List.{Contains}
 use Rattle.std.specs.List.Sorted.{IsStrictlySortedBy}
 use Rattle.std.specs.Option.{option_map}
 use Rattle.std.specs.Result.{result_ok}
 use Rattle.std.specs.Str.Lines.{lines as cut_lines}
-use Rattle.std.proofs.lemmas.Bool.{and_parts, true≢false}
+use Rattle.std.proofs.lemmas.Bool.{true≢false}
 use Rattle.std.proofs.lemmas.Cmp.{nat_list_cmp_total}
 use Rattle.std.proofs.lemmas.List.Elements.{All-contains, Contains-append_cases, Contains-append_left, Contains-append_right}
 use Rattle.std.proofs.lemmas.List.Folds.{Any-from_list_any, list_any-from_Any}
-use Rattle.std.proofs.lemmas.Slice.Eq.{bytes_eq-Decides}
 use Rattle.std.proofs.lemmas.Str.{IsUtf8-nil, is_utf8-from_IsUtf8}
 use Rattle.tup_path.specs.Name.{Names, Content}
 use Rattle.tup_path.specs.Order.{by_bytes, by_names, same_path}
@@ -40,19 +39,21 @@ use Rattle.tup_vars.specs.declared.fault.ConfigFault.{ConfigFault}
 use Rattle.tup_vars.specs.declared.fault.ConfigFault.TheVariants.{At}
 use Rattle.tup_query.specs.declared.fault.ParseFault.{ParseFault}
 use Rattle.tup_query.specs.Log.{noted_log}
+use Rattle.tup_rule_line.proofs.Below.{below_is, below_so}
 use Rattle.tup_rule_line.specs.Glob.{names_among, in_order}
 use Rattle.tup_rule_line.specs.Making.{made_by, is_made}
 use Rattle.tup_tupfile.specs.Reading.{reading}
-use Rattle.tup_readings.specs.Answers.{Readings, seen_drafts, names_in, made_kind, kind_at, is_unread, unread, folder_told, awaited, answer}
+use Rattle.tup_readings.specs.Answers.{Readings, other_drafts, seen_drafts, names_in, made_kind, kind_at, is_unread, unread, folder_told, awaited, answer}
 use Rattle.tup_readings.specs.Readings.{IsReadingOver, AreReadings, AreAllReadings}
-use Rattle.tup_readings.specs.Sources.{is_source, is_below, has_below, has_tupfile, settings_of, tupfile}
+use Rattle.tup_readings.specs.Sources.{is_source, is_below, has_below, has_tupfile, settings_of, tupfile, home}
 use Rattle.tup_readings.proofs.Alike.{ToldAlike, runs_alike}
 use Rattle.tup_readings.proofs.Below.{last_item, above_named}
+use Rattle.tup_readings.proofs.Homes.{home_is, is_home}
 use Rattle.tup_readings.proofs.Logs.{fit_from_start}
 use Rattle.tup_readings.proofs.More.{get_more}
 use Rattle.tup_readings.proofs.One.{AreOfTupfiles, of_tupfiles}
 use Rattle.tup_runner.specs.Next.{Next}
-use Rattle.tup_graph.specs.Answers.{tup_config, IsSource, IsDrafted, IsOutputOf, IsFileFor, HasSourceBelow, IsKind, IsSetTo, IsAnswer}
+use Rattle.tup_graph.specs.Answers.{tup_config, IsHome, IsSource, IsDrafted, IsOutputFor, IsOutputOf, IsFileFor, HasSourceBelow, IsKind, IsSetTo, IsAnswer}
 use Rattle.tup_graph.specs.Graph.{GraphState, is_created, source}
 use Rattle.tup_graph.specs.Kept.{IsKept}
 use Rattle.tup_graph.specs.Records.{Language}
@@ -105,21 +106,6 @@ there_made (first ∷ drafts) path (draft, (zero, less, is), out) =
 there_made (first ∷ drafts) path (draft, (suc k, less, is), out) =
     Contains-append_right first.outputs (made_by drafts) path (there_made drafts path (draft, (k, omega arith, is), out))
 
-below_is : (folder path : Names) → is_below folder path ≡ true → IsBelow folder path
-below_is [] [] e = cc
-below_is [] (name ∷ path) e = (name ∷ path, λ z. cc, refl)
-below_is (first ∷ folder) [] e = cc
-below_is (first ∷ folder) (name ∷ path) e =
-    let both = and_parts (bytes_eq first name) (is_below folder path) e in
-    let rest = below_is folder path both.1 in
-    let same : first ≡ name = (bytes_eq-Decides first name).0 both.0 in
-    (rest.0, rest.1, λ i. sym same i ∷ rest.2 i)
-
-below_so : (folder rest : Names) → rest ≢ [] → is_below folder (folder ++ rest) ≡ true
-below_so [] [] some = absurd (some refl)
-below_so [] (name ∷ rest) some = refl
-below_so (first ∷ folder) rest some = ap (λ b. b && is_below folder (folder ++ rest)) ((bytes_eq-Decides first first).1 refl) ∙ below_so folder rest some
-
 has_below_is : (paths : List Names) (folder : Names) → has_below paths folder ≡ true → (file : Names) × Contains paths file × IsBelow folder file
 has_below_is paths folder e =
     let found = Any-from_list_any (is_below folder) paths e in
@@ -127,7 +113,7 @@ has_below_is paths folder e =
 
 has_below_so : (paths : List Names) (folder file : Names) → Contains paths file → IsBelow folder file → has_below paths folder ≡ true
 has_below_so paths folder file h below =
-    list_any-from_Any (is_below folder) paths (h.0, file, h.1, h.2, ap (is_below folder) below.2 ∙ below_so folder below.0 below.1)
+    list_any-from_Any (is_below folder) paths (h.0, file, h.1, h.2, below_so folder file below)
 
 -- an empty tup.config sets nothing
 pub empty_sets : config_of [] ≡ Ok []
@@ -156,28 +142,60 @@ module _ (sources : Tree) (g : GraphState) (sees : SeesSources sources g) where
   pub key_is : (path : Names) → Contains (finite.keys sources) path → is_source sources path ≡ true
   key_is path h = finite.contains_key-keys sources path ∙ in_list by_names by_names-decides (finite.keys sources) path h
 
-  -- ---- what a folder's rules show
+  -- ---- homes
+
+  not_source : (path : Names) → (IsSource (source g) path → ⊥) → is_source sources path ≡ false
+  not_source path none = by (is_source sources path) refl
+    where
+      by : (b : Bool) → is_source sources path ≡ b → is_source sources path ≡ false
+      by true there = absurd (none (source_is path there))
+      by false there = there
+
+  -- the home of a folder is what the graph says of it
+  pub home_seen : (dir folder : Names) → home sources dir ≡ Some folder → IsHome (source g) dir folder
+  home_seen dir folder e =
+      let is = home_is sources dir folder e in
+      record {
+        above = is.above;
+        has_tupfile = source_is (tupfile folder) is.has;
+        nearest = λ other below up there. true≢false (sym (is_source_so (tupfile other) there) ∙ is.nearest other below up);
+      }
+
+  pub seen_home : (dir folder : Names) → IsHome (source g) dir folder → home sources dir ≡ Some folder
+  seen_home dir folder is =
+      is_home sources dir folder (record {
+        above = is.above;
+        has = is_source_so (tupfile folder) is.has_tupfile;
+        nearest = λ other below up. not_source (tupfile other) (is.nearest other below up);
+      })
+
+  -- ---- what the rules of a folder's home show
 
   -- these are the rules of a folder that the reading of another one is told of
-  pub record Shows (reader folder : Names) (drafts : List Draft) : Type 0 where
+  record ShowsRules (reader folder : Names) (drafts : List Draft) : Type 0 where
     pub out : (path : Names) → IsDrafted drafts path → (folder ≢ reader) × IsOutputOf (source g) g.readings folder path
     pub back : (path : Names) → folder ≢ reader → IsOutputOf (source g) g.readings folder path → IsDrafted drafts path
 
+  -- these are the rules that may make files in a folder, as far as a reading is told of them
+  pub record Shows (reader dir : Names) (drafts : List Draft) : Type 0 where
+    pub out : (path : Names) → IsDrafted drafts path → IsOutputFor (source g) g.readings reader dir path
+    pub back : (path : Names) → IsOutputFor (source g) g.readings reader dir path → IsDrafted drafts path
+
   module _ (settings : Entries) (readings : Readings) (tups : AreOfTupfiles sources settings readings) (reader : Names) where
-    pub shows : (folder : Names) → unread sources readings reader folder ≡ None → ((left : Reading) → finite.get readings folder ≡ Some left → finite.get g.readings folder ≡ Some left) → Shows reader folder (seen_drafts readings reader folder)
-    shows folder ready agree = by (same_path reader folder) refl (finite.get readings folder) refl
+    shows_rules : (folder : Names) → unread sources readings reader folder ≡ None → ((left : Reading) → finite.get readings folder ≡ Some left → finite.get g.readings folder ≡ Some left) → ShowsRules reader folder (other_drafts readings reader folder)
+    shows_rules folder ready agree = by (same_path reader folder) refl (finite.get readings folder) refl
       where
         flat : (b : Bool) → cond b (Some folder) None ≡ None → b ≡ false
         flat true e = cc
         flat false e = refl
 
-        own : (drafts : List Draft) → reader ≡ folder → drafts ≡ [] → Shows reader folder drafts
+        own : (drafts : List Draft) → reader ≡ folder → drafts ≡ [] → ShowsRules reader folder drafts
         own drafts same none = record {
           out = λ path h. absurd (none_in h.0 (subst (λ (l : List Draft). Contains l h.0) none h.1));
           back = λ path apart out. absurd (apart (sym same));
         }
 
-        by : (b : Bool) → same_path reader folder ≡ b → (found : Option Reading) → finite.get readings folder ≡ found → Shows reader folder (cond b [] (elim found as (λ _. List Draft) [ Some left ↦ left.drafts | None ↦ [] ]))
+        by : (b : Bool) → same_path reader folder ≡ b → (found : Option Reading) → finite.get readings folder ≡ found → ShowsRules reader folder (cond b [] (elim found as (λ _. List Draft) [ Some left ↦ left.drafts | None ↦ [] ]))
         by true same found e = own [] ((same_path-decides reader folder).0 same) refl
         by false apart None e = record {
           out = λ path h. absurd (none_in h.0 h.1);
@@ -199,35 +217,61 @@ module _ (sources : Tree) (g : GraphState) (sees : SeesSources sources g) where
             the : (a b : Reading) → Some a ≡ Some b → a ≡ b
             the a b e = cc
 
+    pub shows : (dir : Names) → option_and_then (unread sources readings reader) (home sources dir) ≡ None
+        → ((folder : Names) (left : Reading) → home sources dir ≡ Some folder → finite.get readings folder ≡ Some left → finite.get g.readings folder ≡ Some left)
+        → Shows reader dir (seen_drafts sources readings reader dir)
+    shows dir ready agree = by (home sources dir) refl ready
+      where
+        the : (a b : Names) → Some a ≡ Some b → a ≡ b
+        the a b e = cc
+
+        nothing : (folder : Names) → None ≡ Some folder → ⊥
+        nothing folder e = cc
+
+        by : (found : Option Names) → home sources dir ≡ found → option_and_then (unread sources readings reader) found ≡ None
+            → Shows reader dir (elim found as (λ _. List Draft) [ Some folder ↦ other_drafts readings reader folder | None ↦ [] ])
+        by None e ready = record {
+          out = λ path h. absurd (none_in h.0 h.1);
+          back = λ path out. absurd (nothing out.0 (sym e ∙ seen_home dir out.0 out.1));
+        }
+        by (Some folder) e ready =
+            let rules = shows_rules folder ready (λ left. agree folder left e) in
+            record {
+              out = λ path h. (folder, home_seen dir folder e, (rules.out path h).0, (rules.out path h).1);
+              back = λ path out.
+                  let same : out.0 ≡ folder = the out.0 folder (sym (seen_home dir out.0 out.1) ∙ e) in
+                  rules.back path (subst (λ d. d ≢ reader) same out.2) (subst (λ d. IsOutputOf (source g) g.readings d path) same out.3);
+            }
+
     -- ---- answers
 
     -- the names that are told are in order, and just those of the files there
-    pub names_told : (folder : Names) → Shows reader folder (seen_drafts readings reader folder)
+    pub names_told : (folder : Names) → Shows reader folder (seen_drafts sources readings reader folder)
         → IsStrictlySortedBy by_bytes (names_in sources readings reader folder) × ((name : List ℕ) → Contains (names_in sources readings reader folder) name ↔ IsFileFor (source g) g.readings reader folder name)
     names_told folder shown = (sorted_from_none by_bytes nat_list_cmp_total by_bytes-antisymmetric among_all, λ name. (file name, there name))
       where
         among_all : List (List ℕ)
-        among_all = names_among folder (finite.keys sources ++ made_by (seen_drafts readings reader folder))
+        among_all = names_among folder (finite.keys sources ++ made_by (seen_drafts sources readings reader folder))
 
-        file : (name : List ℕ) → Contains (in_order (names_among folder (finite.keys sources ++ made_by (seen_drafts readings reader folder)))) name → IsFileFor (source g) g.readings reader folder name
+        file : (name : List ℕ) → Contains (in_order (names_among folder (finite.keys sources ++ made_by (seen_drafts sources readings reader folder)))) name → IsFileFor (source g) g.readings reader folder name
         file name h = elim (all_only by_bytes nat_list_cmp_total by_bytes-antisymmetric [] among_all name h) [
           | inl none ↦ absurd (none_in name none)
-          | inr some ↦ elim (Contains-append_cases (finite.keys sources) (made_by (seen_drafts readings reader folder)) (folder ++ name ∷ [])
-              (named_there folder (finite.keys sources ++ made_by (seen_drafts readings reader folder)) name some)) [
+          | inr some ↦ elim (Contains-append_cases (finite.keys sources) (made_by (seen_drafts sources readings reader folder)) (folder ++ name ∷ [])
+              (named_there folder (finite.keys sources ++ made_by (seen_drafts sources readings reader folder)) name some)) [
                 | inl key ↦ inl (source_is (folder ++ name ∷ []) (key_is (folder ++ name ∷ []) key))
-                | inr made ↦ inr (shown.out (folder ++ name ∷ []) (made_there (seen_drafts readings reader folder) (folder ++ name ∷ []) made))
+                | inr made ↦ inr (shown.out (folder ++ name ∷ []) (made_there (seen_drafts sources readings reader folder) (folder ++ name ∷ []) made))
               ]
         ]
 
-        path_there : (name : List ℕ) → IsFileFor (source g) g.readings reader folder name → Contains (finite.keys sources ++ made_by (seen_drafts readings reader folder)) (folder ++ name ∷ [])
-        path_there name (inl s) = Contains-append_left (finite.keys sources) (made_by (seen_drafts readings reader folder)) (folder ++ name ∷ []) (key_there (folder ++ name ∷ []) (is_source_so (folder ++ name ∷ []) s))
-        path_there name (inr out) = Contains-append_right (finite.keys sources) (made_by (seen_drafts readings reader folder)) (folder ++ name ∷ [])
-            (there_made (seen_drafts readings reader folder) (folder ++ name ∷ []) (shown.back (folder ++ name ∷ []) out.0 out.1))
+        path_there : (name : List ℕ) → IsFileFor (source g) g.readings reader folder name → Contains (finite.keys sources ++ made_by (seen_drafts sources readings reader folder)) (folder ++ name ∷ [])
+        path_there name (inl s) = Contains-append_left (finite.keys sources) (made_by (seen_drafts sources readings reader folder)) (folder ++ name ∷ []) (key_there (folder ++ name ∷ []) (is_source_so (folder ++ name ∷ []) s))
+        path_there name (inr out) = Contains-append_right (finite.keys sources) (made_by (seen_drafts sources readings reader folder)) (folder ++ name ∷ [])
+            (there_made (seen_drafts sources readings reader folder) (folder ++ name ∷ []) (shown.back (folder ++ name ∷ []) out))
 
-        there : (name : List ℕ) → IsFileFor (source g) g.readings reader folder name → Contains (in_order (names_among folder (finite.keys sources ++ made_by (seen_drafts readings reader folder)))) name
-        there name is = all_there by_bytes nat_list_cmp_total by_bytes-antisymmetric [] among_all name (inr (there_named folder (finite.keys sources ++ made_by (seen_drafts readings reader folder)) name (path_there name is)))
+        there : (name : List ℕ) → IsFileFor (source g) g.readings reader folder name → Contains (in_order (names_among folder (finite.keys sources ++ made_by (seen_drafts sources readings reader folder)))) name
+        there name is = all_there by_bytes nat_list_cmp_total by_bytes-antisymmetric [] among_all name (inr (there_named folder (finite.keys sources ++ made_by (seen_drafts sources readings reader folder)) name (path_there name is)))
 
-    names_stand : (folder : Names) (names : List (List ℕ)) → Shows reader folder (seen_drafts readings reader folder) → IsStrictlySortedBy by_bytes names
+    names_stand : (folder : Names) (names : List (List ℕ)) → Shows reader folder (seen_drafts sources readings reader folder) → IsStrictlySortedBy by_bytes names
         → ((name : List ℕ) → Contains names name ↔ IsFileFor (source g) g.readings reader folder name) → names_in sources readings reader folder ≡ names
     names_stand folder names shown up each =
         let told = names_told folder shown in
@@ -246,14 +290,14 @@ module _ (sources : Tree) (g : GraphState) (sees : SeesSources sources g) where
 
     -- where neither a source nor a folder of sources stands
     made_stands : (path : Names) → is_source sources path ≡ false → has_below (finite.keys sources) path ≡ false → (up : Option Names) → result_ok (above path) ≡ up
-        → ((folder : Names) → up ≡ Some folder → Shows reader folder (seen_drafts readings reader folder))
-        → IsKind (source g) g.readings reader path (elim up as (λ _. Kind) [ Some dir ↦ made_kind readings reader dir path | None ↦ Nothing ])
+        → ((folder : Names) → up ≡ Some folder → Shows reader folder (seen_drafts sources readings reader folder))
+        → IsKind (source g) g.readings reader path (elim up as (λ _. Kind) [ Some dir ↦ made_kind sources readings reader dir path | None ↦ Nothing ])
     made_stands path lacks none None top shown =
-        (no_source path lacks, none_below path none, λ (dir, name, is, apart, out). nothing dir (sym top ∙ ap (λ p. result_ok (above p)) is ∙ above_named dir name))
+        (no_source path lacks, none_below path none, λ (dir, name, is, out). nothing dir (sym top ∙ ap (λ p. result_ok (above p)) is ∙ above_named dir name))
       where
         nothing : (dir : Names) → None ≡ Some dir → ⊥
         nothing dir e = cc
-    made_stands path lacks none (Some up) top shown = by (is_made (seen_drafts readings reader up) path) refl
+    made_stands path lacks none (Some up) top shown = by (is_made (seen_drafts sources readings reader up) path) refl
       where
         the : (a b : Names) → Some a ≡ Some b → a ≡ b
         the a b e = cc
@@ -270,18 +314,18 @@ module _ (sources : Tree) (g : GraphState) (sees : SeesSources sources g) where
         up_is : parts.0 ≡ up
         up_is = the parts.0 up (sym (above_named parts.0 parts.1) ∙ ap (λ p. result_ok (above p)) (sym parts.2) ∙ top)
 
-        by : (b : Bool) → is_made (seen_drafts readings reader up) path ≡ b → IsKind (source g) g.readings reader path (cond b File Nothing)
+        by : (b : Bool) → is_made (seen_drafts sources readings reader up) path ≡ b → IsKind (source g) g.readings reader path (cond b File Nothing)
         by true made =
-            let out = (shown up refl).out path (made_is (seen_drafts readings reader up) path made) in
-            inr (none_below path none, (up, parts.1, parts.2 ∙ ap (λ f. f ++ parts.1 ∷ []) up_is, out.0, out.1))
+            let out = (shown up refl).out path (made_is (seen_drafts sources readings reader up) path made) in
+            inr (none_below path none, (up, parts.1, parts.2 ∙ ap (λ f. f ++ parts.1 ∷ []) up_is, out))
         by false made = (
           no_source path lacks,
           none_below path none,
-          λ (dir, name, is, apart, out).
+          λ (dir, name, is, out).
               let dir_is : dir ≡ up = the dir up (sym (above_named dir name) ∙ ap (λ p. result_ok (above p)) (sym is) ∙ top) in
               true≢false
-              (sym (is_made_so (seen_drafts readings reader up) path
-              ((shown up refl).back path (subst (λ d. d ≢ reader) dir_is apart) (subst (λ d. IsOutputOf (source g) g.readings d path) dir_is out))) ∙ made),
+              (sym (is_made_so (seen_drafts sources readings reader up) path
+              ((shown up refl).back path (subst (λ d. IsOutputFor (source g) g.readings reader d path) dir_is out))) ∙ made),
         )
 
     pub kind_stands : (path : Names) → awaited sources readings reader (asks.Kind path) ≡ None
@@ -290,14 +334,15 @@ module _ (sources : Tree) (g : GraphState) (sees : SeesSources sources g) where
     kind_stands path ready agree = by (is_source sources path) refl (has_below (finite.keys sources) path) refl ready agree
       where
         by : (s : Bool) → is_source sources path ≡ s → (b : Bool) → has_below (finite.keys sources) path ≡ b
-            → option_and_then (unread sources readings reader) (cond (s || b) None (result_ok (above path))) ≡ None
-            → ((folder : Names) (left : Reading) → cond (s || b) None (result_ok (above path)) ≡ Some folder → finite.get readings folder ≡ Some left → finite.get g.readings folder ≡ Some left)
-            → IsKind (source g) g.readings reader path (cond s File (cond b Dir (elim (result_ok (above path)) as (λ _. Kind) [ Some dir ↦ made_kind readings reader dir path | None ↦ Nothing ])))
+            → option_and_then (unread sources readings reader) (cond (s || b) None (option_and_then (home sources) (result_ok (above path)))) ≡ None
+            → ((folder : Names) (left : Reading) → cond (s || b) None (option_and_then (home sources) (result_ok (above path))) ≡ Some folder → finite.get readings folder ≡ Some left → finite.get g.readings folder ≡ Some left)
+            → IsKind (source g) g.readings reader path (cond s File (cond b Dir (elim (result_ok (above path)) as (λ _. Kind) [ Some dir ↦ made_kind sources readings reader dir path | None ↦ Nothing ])))
         by true is b below ready agree = inl (source_is path is)
         by false lacks true below ready agree = (no_source path lacks, below_there path below)
         by false lacks false none ready agree =
             made_stands path lacks none (result_ok (above path)) refl
-            (λ folder up. shows folder (ap (option_and_then (unread sources readings reader)) (sym up) ∙ ready) (λ left. agree folder left up))
+            (λ dir up. shows dir (ap (λ (u : Option Names). option_and_then (unread sources readings reader) (option_and_then (home sources) u)) (sym up) ∙ ready)
+            (λ folder left e. agree folder left (ap (option_and_then (home sources)) up ∙ e)))
 
     module _ (known : List Content) (is_known : IsKnown known) (tree : KnowsTree known sources) (set : settings_of sources ≡ Ok settings) where
       config_stands : (name : List ℕ) (value : Option (List ℕ)) → IsSetTo known (source g tup_config) name value → look settings name ≡ value
@@ -323,7 +368,7 @@ module _ (sources : Tree) (g : GraphState) (sees : SeesSources sources g) where
       answer_stands (asks.Content path) (kept.Content seen) is ready agree = ap (λ s. kept.Content s) (sym (sees path) ∙ sym is)
       answer_stands (asks.Config name) (kept.Config value) is ready agree = ap (λ v. kept.Config v) (config_stands name value is)
       answer_stands (asks.Names folder) (kept.Names names) is ready agree =
-          ap (λ n. kept.Names n) (names_stand folder names (shows folder ready (λ left. agree folder left refl)) is.0 is.1)
+          ap (λ n. kept.Names n) (names_stand folder names (shows folder ready agree) is.0 is.1)
       answer_stands (asks.Kind path) (kept.Kind kind) is ready agree =
           ap (λ k. kept.Kind k) (one_kind (source g) g.readings reader path (kind_at sources readings reader path) kind (kind_stands path ready agree) is)
       answer_stands (asks.Content path) (kept.Config value) is ready agree = absurd is

@@ -14,7 +14,7 @@ use Rattle.tup_graph.specs.Graph.{GraphState, is_created, source}
 abbrev pub SeesSources : Tree → GraphState → Type 0
 SeesSources sources g = (path : Names) → source g path ≡ option_map stamp (finite.get sources path)
 
--- the kept reading of a folder was told of the files of another one
+-- the kept reading of a folder was told of files that the rules of another one may make
 pub record HasAskedOf (sources : Tree) (g : GraphState) (dir other : Names) : Type 0 where
   pub left : Reading
   pub kept : finite.get g.readings dir ≡ Some left

@@ -2,8 +2,7 @@
 ghost use Rattle.std.specs.Prelude.{◌≡◌, IsTrue, IfOk, IfErr};
 ghost use Rattle.tup_rule.specs.declared.question.Question.TheVariants as asks;
 ghost use Rattle.tup_query.specs.Log.{fits};
-ghost use Rattle.tup_readings.specs.Asked.{answer_or_misfit};
-ghost use Rattle.tup_refresh.specs.Asking.{told_or_misfit, IsHalt};
+ghost use Rattle.tup_refresh.specs.Asking.{answer_or_waiting, told_or_misfit, IsHalt};
 
 use crate::fetched::Fetched;
 use std::alloc::{AllocError, AllocFailed, Global};
@@ -96,7 +95,7 @@ impl Asking<'_, '_> {
 
     /// What is told of anything else.
     fn other(&self, alloc: Global, question: &Question) -> Result<Told, Halt>
-        ensures told { IfOk result (λ told. told ≡ answer_or_misfit self.now.asked.sources.now
+        ensures told { IfOk result (λ told. told ≡ answer_or_waiting self.now.asked.sources.now
             self.now.asked.settings.now self.now.asked.readings.now self.now.asked.reader.now
             question.now) }
         ensures fits { IfOk result (λ told. IsTrue (fits question.now told)) }

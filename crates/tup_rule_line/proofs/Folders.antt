@@ -1,5 +1,6 @@
 -- Words that name folders, and files in folders.
 use Rattle.std.proofs.Common.{◌≡◌, inl, inr, ℕ, ◌+◌, ◌-◌, ◌<◌, Bool, true, false, cond, eqb, leb, ltb, not, if◌then◌else◌, List, [], ◌∷◌, ◌++◌, length, take, drop, Option, Some, None, Result, Ok, Err, slice_get, get_or, MatchOption, IfSome, refl, sym, ap, ◌∙◌, arith, length-drop}
+use Rattle.std.specs.Prelude.{◌==◌}
 use Rattle.std.specs.List.{IsLastAndRest}
 use Rattle.std.proofs.lemmas.List.{take_all, take_at, nil_from_length}
 use Rattle.std.proofs.lemmas.Bool.{ne_eqb}
@@ -18,6 +19,7 @@ use Rattle.tup_query.specs.Reads.{gives}
 use Rattle.tup_query.specs.Spot.{Spot}
 use Rattle.tup_query.specs.Text.{taken}
 use Rattle.tup_rule_line.specs.Folder.{name_in, front_of, led_to_folder}
+use Rattle.tup_rule_line.specs.Output.{says_what_to_build, is_reserved}
 use Rattle.tup_query.specs.Went.{Gives}
 
 -- ---- the last name of a word
@@ -55,6 +57,19 @@ name_in_some dir path folder name is =
 
 pub name_in_none : (dir path : Names) → length path ≡ 0 → name_in dir path ≡ None
 name_in_none dir path e = ap (name_in dir) (nil_from_length path e)
+
+-- a path that says what to build
+abbrev by_last : ℕ → Option (List ℕ) → Bool
+by_last last found = elim found as (λ _. Bool) [ Some name ↦ says_what_to_build (last == 0) name | None ↦ false ]
+
+pub reserved_some : (path folder : Names) (name : List ℕ) → IsLastAndRest path name folder → is_reserved path ≡ says_what_to_build (length folder == 0) name
+reserved_some path folder name is =
+    let n : length path - 1 ≡ length folder = omega (arith, is.1) in
+    let there : slice_get path (length path - 1) ≡ Some name = ap (λ k. slice_get path k) n ∙ ap (λ p. slice_get p (length folder)) is.0 ∙ last_of folder name in
+    ap (by_last (length path - 1)) there ∙ ap (λ k. says_what_to_build (k == 0) name) n
+
+pub reserved_none : (path : Names) → length path ≡ 0 → is_reserved path ≡ false
+reserved_none path e = ap is_reserved (nil_from_length path e)
 
 -- ---- the folder of a word
 pub folder_none : (at : Spot) (kind : ParseKind) (word : List ℕ) (copy : Names) → front_of word ≡ None → copy ≡ at.dir → Gives (led_to_folder at kind word) (Ok copy)

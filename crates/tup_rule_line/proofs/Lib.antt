@@ -1,6 +1,8 @@
 pub mod Ends
 pub mod Pieces
 pub mod Folders
+pub mod Below
+pub mod Ways
 pub mod Outputs
 pub mod Sets
 pub mod Inputs

@@ -11,6 +11,7 @@ use Rattle.tup_rule_line.specs.declared.found.Found.{Found}
 use Rattle.tup_rule_line.specs.declared.found.Input.{Input}
 use Rattle.tup_rule_line.specs.Making.{is_made, Knows, HasPaths}
 use Rattle.tup_rule_line.specs.Found.{HasFiles, has_path, with_input, with_one}
+use Rattle.tup_rule_line.proofs.Below.{one_more_passes, or_last}
 
 -- a path that is there already adds nothing to a set
 there : (keys : List Names) (added path : Names) → among added keys ≡ true → among path keys ≡ (same_path path added || among path keys)
@@ -19,20 +20,6 @@ there keys added path is = by (same_path path added) refl
     by : (b : Bool) → same_path path added ≡ b → among path keys ≡ (b || among path keys)
     by true same = ap (λ p. among p keys) ((same_path-decides path added).0 same) ∙ is
     by false apart = refl
-
-or_last : (a b : Bool) → (a || (b || false)) ≡ (b || a)
-or_last true true = refl
-or_last true false = refl
-or_last false true = refl
-or_last false false = refl
-
--- one more path in a set
-one_more : (keys : List Names) (added path : Names) → among path (insert_key same_path keys added) ≡ (same_path path added || among path keys)
-one_more keys added path = by (among added keys) refl
-  where
-    by : (b : Bool) → among added keys ≡ b → among path (cond b keys (keys ++ added ∷ [])) ≡ (same_path path added || among path keys)
-    by true is = there keys added path is
-    by false new = list_any-append (same_path path) keys (added ∷ []) ∙ or_last (among path keys) (same_path path added)
 
 or_turned : (a b c : Bool) → (a || (b || c)) ≡ ((b || a) || c)
 or_turned true true c = refl
@@ -44,7 +31,7 @@ or_turned false false c = refl
 pub all_more : (keys paths : List Names) (path : Names) → among path (fold (insert_key same_path) keys paths) ≡ (among path paths || among path keys)
 all_more keys [] path = refl
 all_more keys (added ∷ more) path =
-    all_more (insert_key same_path keys added) more path ∙ ap (λ b. among path more || b) (one_more keys added path) ∙ or_turned (among path more) (same_path path added) (among path keys)
+    all_more (insert_key same_path keys added) more path ∙ ap (λ b. among path more || b) (one_more_passes (same_path path) keys added) ∙ or_turned (among path more) (same_path path added) (among path keys)
 
 or_behind : (a b : Bool) → (a || b) ≡ (b || (a || false))
 or_behind true true = refl
@@ -71,15 +58,15 @@ places_of paths path = all_more [] paths path ∙ or_none (among path paths)
 
 pub places_more : (keys paths : List Names) (added : Names) → HasPaths keys paths → HasPaths (insert_key same_path keys added) (paths ++ added ∷ [])
 places_more keys paths added has path =
-    one_more keys added path ∙ ap (λ b. same_path path added || b) (has path) ∙ sym (or_last (among path paths) (same_path path added)) ∙ sym (list_any-append (same_path path) paths (added ∷ []))
+    one_more_passes (same_path path) keys added ∙ ap (λ b. same_path path added || b) (has path) ∙ sym (or_last (among path paths) (same_path path added)) ∙ sym (list_any-append (same_path path) paths (added ∷ []))
 
 -- an input whose path is new, and one whose path is there
 pub files_more : (keys : List Names) (inputs : List Input) (input : Input) → HasFiles keys inputs → HasFiles (insert_key same_path keys input.path) (with_input inputs input)
 files_more keys inputs input has path = by (has_path inputs input.path) refl
   where
     by : (b : Bool) → has_path inputs input.path ≡ b → among path (insert_key same_path keys input.path) ≡ has_path (cond b inputs (inputs ++ input ∷ [])) path
-    by true is = one_more keys input.path path ∙ sym (there keys input.path path (has input.path ∙ is)) ∙ has path
-    by false new = one_more keys input.path path ∙ ap (λ b. same_path path input.path || b) (has path) ∙ sym (or_last (has_path inputs path) (same_path path input.path))
+    by true is = one_more_passes (same_path path) keys input.path ∙ sym (there keys input.path path (has input.path ∙ is)) ∙ has path
+    by false new = one_more_passes (same_path path) keys input.path ∙ ap (λ b. same_path path input.path || b) (has path) ∙ sym (or_last (has_path inputs path) (same_path path input.path))
         ∙ sym (list_any-append (λ (i : Input). same_path path i.path) inputs (input ∷ []))
 
 turned_over : (b : Bool) (one other : List Input) → cond (not b) one other ≡ cond b other one

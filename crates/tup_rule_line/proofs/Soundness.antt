@@ -1,5 +1,5 @@
 -- The rules that a line adds can be run in their order, behind those of the lines before.
-use Rattle.std.proofs.Common.{◌≡◌, ◌⊎◌, inl, inr, ℕ, ◌+◌, Bool, true, false, ◌||◌, cond, if◌then◌else◌, List, [], ◌∷◌, ◌++◌, length, get_or, map, fold, Option, Some, None, option_map, Result, Ok, Err, All, bytes_eq, refl, sym, ap, ◌∙◌, subst, append_assoc, append-nil, arith, length-append, not}
+use Rattle.std.proofs.Common.{◌≡◌, ◌≢◌, zero, suc, ◌-◌, ◌≤◌, ◌<◌, codes, ◌⊎◌, inl, inr, ℕ, ◌+◌, Bool, true, false, ◌||◌, cond, if◌then◌else◌, List, [], ◌∷◌, ◌++◌, length, get_or, map, fold, Option, Some, None, option_map, Result, Ok, Err, All, bytes_eq, refl, sym, ap, ◌∙◌, subst, append_assoc, append-nil, arith, length-append, not}
 use Rattle.std.specs.List.{AllByRecursion, IsDistinct, filter_map, cons_option}
 use Rattle.std.specs.Map.{set_value}
 use Rattle.std.specs.BTreeSet.{insert_key}
@@ -7,11 +7,14 @@ use Rattle.std.specs.Option.{option_map_or}
 use Rattle.std.specs.Result.{result_ok}
 use Rattle.std.specs.Str.{chars}
 use Rattle.std.proofs.lemmas.List.Elements.{All-nil, All-cons, All-head, All-tail, All-append, All-push, All-weaker, All-map}
+use Rattle.std.specs.List.{list_any}
+use Rattle.std.proofs.lemmas.Bool.{false≢true, and_parts}
 use Rattle.std.proofs.lemmas.List.Folds.{list_any-append, list_any_at}
 use Rattle.std.proofs.lemmas.Map.Views.{All-insert_key}
 use Rattle.tup_path.specs.Name.{Names}
 use Rattle.tup_path.specs.Order.{by_bytes, by_names, same_path}
-use Rattle.tup_path.specs.Resolve.{below}
+use Rattle.tup_path.specs.Resolve.{below, above, resolve}
+use Rattle.tup_path.specs.Tree.{IsBelow}
 use Rattle.tup_path.specs.declared.fault.PathFault.{PathFault}
 use Rattle.tup_path.proofs.Same.{same_path-decides}
 use Rattle.tup_lex.specs.Word.{last_name}
@@ -43,17 +46,21 @@ use Rattle.tup_rule_line.specs.declared.words.Words.{Words}
 use Rattle.tup_query.specs.Reads.{Reads, Ends, Asks, gives, and_then, outcome}
 use Rattle.tup_query.specs.Ask.{asks, names_in, kind_at, names_at}
 use Rattle.tup_query.specs.Spot.{Spot, refused}
+use Rattle.tup_query.specs.Text.{taken}
 use Rattle.tup_rule_line.specs.State.{made_by, is_made}
 use Rattle.tup_rule_line.specs.Folder.{name_in, led, led_to_folder, bin_name, is_group, group_in}
 use Rattle.tup_rule_line.specs.Flagged.{flagged_text, bare_parts}
-use Rattle.tup_rule_line.specs.Output.{may_make, is_reserved, new_output, known_output, from_output, from_outputs}
+use Rattle.tup_rule_line.specs.Below.{is_below}
+use Rattle.tup_rule_line.specs.Output.{may_make, is_reserved, is_taken, is_above_one, is_blocked, is_way_blocked, between, new_output, known_output, from_output, from_outputs}
 use Rattle.tup_rule_line.specs.Found.{input, inputs_alone, one_input, one_group, nothing_found, paths_of, with_input, has_path, with_found}
 use Rattle.tup_rule_line.specs.Glob.{is_glob, in_order, names_among, names_of_files, matched_input, matching, glob_of, matched_in, globbed}
 use Rattle.tup_rule_line.specs.Input.{is_file, known_input, literal, from_bin, from_group, from_files, from_other, from_word, from_words}
 use Rattle.tup_rule_line.specs.Job.{one_job, whole_job, gives_nothing, jobs_of, flag_parts, in_extra, in_command, spoken, draft_of, with_text, with_extra, with_outputs, drafted, with_gifts, with_draft, with_job, with_jobs}
 use Rattle.tup_rule_line.specs.RuleLine.{given_to, plan_with, plan_of, planned, with_words, words_in, ruled}
 use Rattle.tup_rule_line.specs.MacroLine.{body_in, one_more, with_body, defined}
-use Rattle.tup_rule_line.specs.Sound.{told_at, NamesFiles, MayTake, MayMake, IsSound, AreSound}
+use Rattle.tup_rule_line.specs.Sound.{told_at, NamesFiles, MayTake, AreFlat, MayMake, IsSound, AreSound}
+use Rattle.tup_rule_line.proofs.Below.{last_item, below_is, below_so, below_longer, below_named, nothing_below, not_below_itself, above_is, top_alone, passes_in, made_among}
+use Rattle.tup_rule_line.proofs.Ways.{is_here, at_folder, unless_tupfile, by_tupfile, at_last, by_folder}
 use Rattle.tup_rule_line.proofs.Folders.{name_in_some, name_in_none, below-ok}
 use Rattle.tup_rule_line.proofs.Rules.{behind_group, behind_order, behind_inputs, behind_plan, behind_words, behind_body, behind_macros}
 
@@ -79,6 +86,15 @@ brings_gives answers value P p found e = let same : value ≡ found = cc in subs
 pub brings_refused : (A : Type 0) (answers : Question → Told) (at : Spot) (kind : ParseKind) (P : A → Type 0) → Brings answers (refused {A = A} at kind) P
 brings_refused A answers at kind P found e = absurd (cc)
 
+-- what is among paths that are all such is such
+all_at : (P : Names → Type 0) (paths : List Names) (path : Names) → All P paths → among path paths ≡ true → P path
+all_at P [] path all e = absurd (false≢true e)
+all_at P (first ∷ more) path all e = by (λ there. all_at P more path (All-tail P first more all) there) (same_path path first) refl e
+  where
+    by : (among path more ≡ true → P path) → (b : Bool) → same_path path first ≡ b → (b || among path more) ≡ true → P path
+    by behind true same e = subst P (sym ((same_path-decides path first).0 same)) (All-head P first more all)
+    by behind false apart e = behind e
+
 brings_kind : (answers : Question → Told) (path : Names) → Brings answers (kind_at path) (λ kind. kind ≡ told_at answers path)
 unfolding asks and_then
 brings_kind answers path kind e = let same : told_at answers path ≡ kind = cc in sym same
@@ -101,18 +117,9 @@ or_true true b e = refl
 or_true false b e = absurd (cc)
 
 -- ---- paths
--- a path is the top, or what stands in a folder under a name
-snoc : (path : Names) → (path ≡ []) ⊎ ((folder : Names) × (name : List ℕ) × (path ≡ folder ++ name ∷ []))
-snoc [] = inl refl
-snoc (first ∷ more) = by (snoc more)
-  where
-    by : (more ≡ []) ⊎ ((folder : Names) × (name : List ℕ) × (more ≡ folder ++ name ∷ [])) → (first ∷ more ≡ []) ⊎ ((folder : Names) × (name : List ℕ) × (first ∷ more ≡ folder ++ name ∷ []))
-    by (inl e) = inr ([], first, ap (λ (m : Names). first ∷ m) e)
-    by (inr (folder, name, e)) = inr (first ∷ folder, name, ap (λ (m : Names). first ∷ m) e)
-
 -- a path that has a name in a folder stands there under this name
 pub name_in-own : (dir path : Names) (name : List ℕ) → name_in dir path ≡ Some name → path ≡ dir ++ name ∷ []
-name_in-own dir path name e = by (snoc path)
+name_in-own dir path name e = by (last_item path)
   where
     in_it : (folder : Names) (last : List ℕ) (same : Bool) → same_path dir folder ≡ same → cond same (Some last) None ≡ Some name → folder ++ last ∷ [] ≡ dir ++ name ∷ []
     in_it folder last true same e =
@@ -236,55 +243,212 @@ pub record IsSoundState (answers : Question → Told) (dir : Names) (state : Sta
   pub bins : AllGiven (λ path. is_made state.drafts path ≡ true) state.bins
 
 -- ---- outputs
-abbrev by_kind : Spot → Names → Kind → Reads ParseFault Names
-by_kind at path kind = elim kind as (λ _. Reads ParseFault Names) [ File ↦ refused at fault.OutputIsSource | Dir ↦ refused at fault.OutputIsDir | Nothing ↦ gives path ]
+-- where a text of one name leads
+one_name : (dir path : Names) → resolve dir (codes "Tupfile") ≡ Ok path → path ≡ dir ++ codes "Tupfile" ∷ []
+one_name dir path e = by (below dir (codes "Tupfile")) refl e
+  where
+    by : (found : Result Names PathFault) → below dir (codes "Tupfile") ≡ found → (elim found as (λ _. Result Names PathFault) [ Ok next ↦ Ok next | Err refusal ↦ Err refusal ]) ≡ Ok path → path ≡ dir ++ codes "Tupfile" ∷ []
+    by (Ok next) is e = let same : next ≡ path = cc in below-ok dir (codes "Tupfile") path (inr (ap Ok (sym same) ∙ sym is))
+    by (Err refusal) is e = absurd (cc)
 
-abbrev IsFree : List Draft → List Names → Names → Kind → Names → Type 0
-IsFree drafts outputs path kind found = (path ≡ found) × (kind ≡ Nothing) × (is_made drafts path ≡ false) × (among path outputs ≡ false)
+brings_tupfile : (answers : Question → Told) (at : Spot) (dir : Names) → Brings answers (led at fault.ForeignOutput dir (codes "Tupfile")) (λ path. path ≡ dir ++ codes "Tupfile" ∷ [])
+unfolding taken
+brings_tupfile answers at dir path e = by (resolve dir (codes "Tupfile")) refl e
+  where
+    by : (found : Result Names PathFault) → resolve dir (codes "Tupfile") ≡ found → outcome answers (taken at (λ (f : PathFault). fault.ForeignOutput) found) ≡ Ok path → path ≡ dir ++ codes "Tupfile" ∷ []
+    by (Ok next) is e = let same : next ≡ path = cc in one_name dir path (is ∙ ap Ok same)
+    by (Err refusal) is e = absurd (cc)
 
--- a path may be one more output of a rule
-abbrev MayMakeMore : (Question → Told) → Names → List Draft → List Names → Names → Type 0
-MayMakeMore answers dir drafts outputs path = MayMake answers dir drafts path × (among path outputs ≡ false)
+-- a folder may stand on the way to an output
+abbrev IsOpen : (Question → Told) → List Draft → List Names → Names → Bool → Type 0
+IsOpen answers drafts outputs folder blocked =
+    (told_at answers (folder ++ codes "Tupfile" ∷ []) ≢ File) × (blocked ≡ false → (told_at answers folder ≢ File) × (is_taken drafts outputs folder ≡ false))
+
+no_file : (kind : Kind) → is_file kind ≡ false → kind ≢ File
+no_file File e is = absurd (cc)
+no_file Nothing e is = absurd (cc)
+no_file Dir e is = absurd (cc)
+
+brings_blocked : (answers : Question → Told) (at : Spot) (drafts : List Draft) (outputs : List Names) (folder : Names) → Brings answers (is_blocked at drafts outputs folder) (IsOpen answers drafts outputs folder)
+unfolding is_blocked
+brings_blocked answers at drafts outputs folder =
+    brings_then answers (led at fault.ForeignOutput folder (codes "Tupfile")) (by_tupfile at drafts outputs folder) (λ path. path ≡ folder ++ codes "Tupfile" ∷ []) (IsOpen answers drafts outputs folder)
+    (brings_tupfile answers at folder)
+    (λ tupfile is. brings_then answers (kind_at tupfile) (unless_tupfile at drafts outputs folder) (λ kind. kind ≡ told_at answers tupfile) (IsOpen answers drafts outputs folder) (brings_kind answers tupfile)
+    (λ kind told. none kind (λ file. told ∙ subst (λ (p : Names). told_at answers p ≡ File) (sym is) file) (is_file kind) refl))
+  where
+    none : (kind : Kind) → (told_at answers (folder ++ codes "Tupfile" ∷ []) ≡ File → kind ≡ File) → (b : Bool) → is_file kind ≡ b
+        → Brings answers (if b then refused at fault.ForeignOutput else at_folder drafts outputs folder) (IsOpen answers drafts outputs folder)
+    none kind so true is = brings_refused Bool answers at fault.ForeignOutput (IsOpen answers drafts outputs folder)
+    none kind so false is = brings_then answers (kind_at folder) (is_here drafts outputs folder) (λ here. here ≡ told_at answers folder) (IsOpen answers drafts outputs folder)
+        (brings_kind answers folder)
+        (λ here told. brings_gives answers (is_file here || is_taken drafts outputs folder) (IsOpen answers drafts outputs folder)
+        ((λ file. no_file kind is (so file)), λ free. ((λ file. no_file here (or_left (is_file here) (is_taken drafts outputs folder) free) (told ∙ file)), or_behind (is_file here) (is_taken drafts outputs folder) free)))
+
+-- each folder on the way to a path, down from so many below, may stand there
+abbrev IsOpenWay : (Question → Told) → List Draft → List Names → Names → ℕ → Bool → Type 0
+IsOpenWay answers drafts outputs path count blocked =
+    (folder : Names) → is_below folder path ≡ true → length path ≤ length folder + count → IsOpen answers drafts outputs folder blocked
+
+-- the folder of a path and what lies above that are all that is above the path
+open_one : (answers : Question → Told) (drafts : List Draft) (outputs : List Names) (path upper : Names) (name : List ℕ) (count : ℕ) (blocked here : Bool) → path ≡ upper ++ name ∷ []
+    → IsOpenWay answers drafts outputs upper count blocked → IsOpen answers drafts outputs upper here → IsOpenWay answers drafts outputs path (suc count) (blocked || here)
+open_one answers drafts outputs path upper name count blocked here is above_it at_it folder under long =
+    by (same_path folder upper) refl (sym (below_named folder upper name) ∙ ap (is_below folder) (sym is) ∙ under)
+  where
+    by : (same : Bool) → same_path folder upper ≡ same → (same || is_below folder upper) ≡ true → IsOpen answers drafts outputs folder (blocked || here)
+    by true same e =
+        let it : folder ≡ upper = (same_path-decides folder upper).0 same in
+        subst (λ f. IsOpen answers drafts outputs f (blocked || here)) (sym it) (at_it.0, λ free. at_it.1 (or_behind blocked here free))
+    by false apart e =
+        let shorter : length path ≡ length upper + 1 = ap length is ∙ length-append upper (name ∷ []) in
+        let above_one = above_it folder e (omega (arith, shorter, long)) in
+        (above_one.0, λ both. above_one.1 (or_left blocked here both))
+
+brings_folder : (answers : Question → Told) (at : Spot) (drafts : List Draft) (outputs : List Names) (path : Names) (count : ℕ)
+    → ((folder : Names) → Brings answers (is_way_blocked at drafts outputs folder count) (IsOpenWay answers drafts outputs folder count)) → (found : Result Names PathFault) → above path ≡ found
+    → Brings answers (by_folder at drafts outputs count found) (IsOpenWay answers drafts outputs path (suc count))
+brings_folder answers at drafts outputs path count above_it (Ok folder) e =
+    let named = above_is path folder e in
+    brings_then answers (is_way_blocked at drafts outputs folder count) (at_last at drafts outputs folder) (IsOpenWay answers drafts outputs folder count) (IsOpenWay answers drafts outputs path (suc count))
+    (above_it folder)
+    (λ blocked way. brings_then answers (is_blocked at drafts outputs folder) (λ here. gives (blocked || here)) (IsOpen answers drafts outputs folder) (IsOpenWay answers drafts outputs path (suc count))
+    (brings_blocked answers at drafts outputs folder)
+    (λ here at_it. brings_gives answers (blocked || here) (IsOpenWay answers drafts outputs path (suc count)) (open_one answers drafts outputs path folder named.0 count blocked here named.1 way at_it)))
+brings_folder answers at drafts outputs path count above_it (Err refusal) e =
+    brings_gives answers false (IsOpenWay answers drafts outputs path (suc count))
+    (λ folder under long. absurd (false≢true (sym (nothing_below folder) ∙ ap (is_below folder) (sym (top_alone path refusal e)) ∙ under)))
+
+brings_way : (answers : Question → Told) (at : Spot) (drafts : List Draft) (outputs : List Names) (path : Names) (count : ℕ)
+    → Brings answers (is_way_blocked at drafts outputs path count) (IsOpenWay answers drafts outputs path count)
+unfolding is_way_blocked
+brings_way answers at drafts outputs path zero =
+    brings_gives answers false (IsOpenWay answers drafts outputs path 0) (λ folder under long. absurd (let less = below_longer folder path under in omega arith))
+brings_way answers at drafts outputs path (suc count) = brings_folder answers at drafts outputs path count (λ folder. brings_way answers at drafts outputs folder count) (above path) refl
+
+abbrev by_kind : Spot → List Draft → List Names → Names → Bool → Kind → Reads ParseFault Names
+by_kind at drafts outputs path blocked kind = elim kind as (λ _. Reads ParseFault Names) [
+  | File ↦ refused at fault.OutputIsSource
+  | Dir ↦ refused at fault.OutputIsDir
+  | Nothing ↦ if blocked || is_above_one drafts outputs path then refused at fault.OutputBelowFile else gives path
+]
+
+-- a path may be an output, by what stands at it and on the way
+pub record IsFree (drafts : List Draft) (outputs : List Names) (path : Names) (blocked : Bool) (kind : Kind) (found : Names) : Type 0 where
+  pub it : path ≡ found
+  pub nothing : kind ≡ Nothing
+  pub new : is_taken drafts outputs path ≡ false
+  pub way : blocked ≡ false
+  pub alone : is_above_one drafts outputs path ≡ false
+
+brings_new : (answers : Question → Told) (at : Spot) (drafts : List Draft) (outputs : List Names) (path : Names) (blocked : Bool) (kind : Kind)
+    → Brings answers (new_output at drafts outputs path blocked kind) (IsFree drafts outputs path blocked kind)
+brings_new answers at drafts outputs path blocked kind = by (is_taken drafts outputs path) kind refl
+  where
+    free : (stands : Bool) → (blocked || is_above_one drafts outputs path) ≡ stands → is_taken drafts outputs path ≡ false
+        → Brings answers (if stands then refused at fault.OutputBelowFile else gives path) (IsFree drafts outputs path blocked Nothing)
+    free true stands e = brings_refused Names answers at fault.OutputBelowFile (IsFree drafts outputs path blocked Nothing)
+    free false stands e =
+        brings_gives answers path (IsFree drafts outputs path blocked Nothing)
+        (record { it = refl; nothing = refl; new = e; way = or_left blocked (is_above_one drafts outputs path) stands; alone = or_behind blocked (is_above_one drafts outputs path) stands })
+
+    by : (there : Bool) (kind : Kind) → is_taken drafts outputs path ≡ there
+        → Brings answers (if there then refused at fault.DuplicateOutput else by_kind at drafts outputs path blocked kind) (IsFree drafts outputs path blocked kind)
+    by true kind e = brings_refused Names answers at fault.DuplicateOutput (IsFree drafts outputs path blocked kind)
+    by false File e = brings_refused Names answers at fault.OutputIsSource (IsFree drafts outputs path blocked File)
+    by false Dir e = brings_refused Names answers at fault.OutputIsDir (IsFree drafts outputs path blocked Dir)
+    by false Nothing e = free (blocked || is_above_one drafts outputs path) refl e
+
+-- a path may be one more output of a rule that makes some already
+pub record MayMakeMore (answers : Question → Told) (dir : Names) (drafts : List Draft) (outputs : List Names) (path : Names) : Type 0 where
+  pub may : MayMake answers dir drafts path
+  pub new : among path outputs ≡ false
+  pub apart : (other : Names) → among other outputs ≡ true → IsBelow dir other → (IsBelow other path → ⊥) × (IsBelow path other → ⊥)
 
 -- paths may be the outputs of a rule
-abbrev MayMakeAll : (Question → Told) → Names → List Draft → List Names → Type 0
-MayMakeAll answers dir drafts outputs = All (MayMake answers dir drafts) outputs × IsDistinct same_path outputs
-
-brings_new : (answers : Question → Told) (at : Spot) (drafts : List Draft) (outputs : List Names) (path : Names) (kind : Kind)
-    → Brings answers (new_output at drafts outputs path kind) (IsFree drafts outputs path kind)
-brings_new answers at drafts outputs path kind = by (is_made drafts path || among path outputs) kind refl
-  where
-    by : (there : Bool) (kind : Kind) → (is_made drafts path || among path outputs) ≡ there
-        → Brings answers (if there then refused at fault.DuplicateOutput else by_kind at path kind) (IsFree drafts outputs path kind)
-    by true kind e = brings_refused Names answers at fault.DuplicateOutput (IsFree drafts outputs path kind)
-    by false File e = brings_refused Names answers at fault.OutputIsSource (IsFree drafts outputs path File)
-    by false Dir e = brings_refused Names answers at fault.OutputIsDir (IsFree drafts outputs path Dir)
-    by false Nothing e =
-        brings_gives answers path (IsFree drafts outputs path Nothing) (refl, refl, or_left (is_made drafts path) (among path outputs) e, or_behind (is_made drafts path) (among path outputs) e)
-
--- a path that a rule may make stands in the folder itself
-own_name : (dir path : Names) → may_make dir path ≡ true → (name : List ℕ) × (path ≡ dir ++ name ∷ [])
-own_name dir path e = by (name_in dir path) refl e
-  where
-    by : (found : Option (List ℕ)) → name_in dir path ≡ found → (elim found as (λ _. Bool) [ Some name ↦ not (is_reserved dir name) | None ↦ false ]) ≡ true → (name : List ℕ) × (path ≡ dir ++ name ∷ [])
-    by None is e = absurd (cc)
-    by (Some name) is e = (name, name_in-own dir path name is)
+pub record MayMakeAll (answers : Question → Told) (dir : Names) (drafts : List Draft) (outputs : List Names) : Type 0 where
+  pub all : All (MayMake answers dir drafts) outputs
+  pub once : IsDistinct same_path outputs
+  pub flat : AreFlat outputs
 
 brings_known : (answers : Question → Told) (at : Spot) (drafts : List Draft) (outputs : List Names) (path : Names)
     → Brings answers (known_output at drafts outputs path) (MayMakeMore answers at.dir drafts outputs)
 unfolding known_output
 brings_known answers at drafts outputs path = by (may_make at.dir path) refl
   where
-    made : may_make at.dir path ≡ true → (kind : Kind) → kind ≡ told_at answers path → Brings answers (new_output at drafts outputs path kind) (MayMakeMore answers at.dir drafts outputs)
-    made own kind is found e =
-        let free = brings_new answers at drafts outputs path kind found e in
-        let name = own_name at.dir path own in
-        subst (MayMakeMore answers at.dir drafts outputs) free.0 (record { name = name.0; own = name.1; free = sym is ∙ free.1; new = free.2 }, free.3)
+    -- a folder on the way is one of those that were looked at
+    near : (folder : Names) → IsBelow at.dir folder → length path ≤ length folder + (between at.dir path)
+    near folder under = let longer = below_longer at.dir folder (below_so at.dir folder under) in omega arith
 
-    by : (own : Bool) → may_make at.dir path ≡ own
-        → Brings answers (if own then and_then (kind_at path) (λ kind. new_output at drafts outputs path kind) else refused at fault.ForeignOutput) (MayMakeMore answers at.dir drafts outputs)
-    by true own = brings_then answers (kind_at path) (λ kind. new_output at drafts outputs path kind) (λ kind. kind ≡ told_at answers path) (MayMakeMore answers at.dir drafts outputs) (brings_kind answers path) (made own)
-    by false own = brings_refused Names answers at fault.ForeignOutput (MayMakeMore answers at.dir drafts outputs)
+    clear : (blocked : Bool) → IsOpenWay answers drafts outputs path (between at.dir path) blocked → blocked ≡ false → is_above_one drafts outputs path ≡ false
+        → (other : Names) → is_taken drafts outputs other ≡ true → IsBelow at.dir other → (IsBelow other path → ⊥) × (IsBelow path other → ⊥)
+    clear blocked way unblocked alone other taken under = (
+      (λ above_it. false≢true (sym ((way other (below_so other path above_it) (near other under)).1 unblocked).1 ∙ taken)),
+      (λ below_it. false≢true (sym alone ∙ above_one other taken (below_so path other below_it))),
+    )
+      where
+        above_one : (other : Names) → is_taken drafts outputs other ≡ true → is_below path other ≡ true → is_above_one drafts outputs path ≡ true
+        above_one other taken under = over (is_made drafts other) refl taken
+          where
+            over : (made : Bool) → is_made drafts other ≡ made → (made || among other outputs) ≡ true → is_above_one drafts outputs path ≡ true
+            over true made taken = or_true (list_any (is_below path) (made_by drafts)) (list_any (is_below path) outputs) (passes_in (is_below path) (made_by drafts) other (made_among drafts other ∙ made) under)
+            over false made taken = or_right (list_any (is_below path) (made_by drafts)) (list_any (is_below path) outputs) (passes_in (is_below path) outputs other taken under)
+
+    made : is_below at.dir path ≡ true → (blocked : Bool) → IsOpenWay answers drafts outputs path (between at.dir path) blocked → (kind : Kind) → kind ≡ told_at answers path
+        → Brings answers (new_output at drafts outputs path blocked kind) (MayMakeMore answers at.dir drafts outputs)
+    made under blocked way kind is found e =
+        let free = brings_new answers at drafts outputs path blocked kind found e in
+        let apart = clear blocked way free.way free.alone in
+        subst (MayMakeMore answers at.dir drafts outputs) free.it (record {
+          may = record {
+            below = below_is at.dir path under;
+            way = λ folder over above_it. (let here = way folder (below_so folder path above_it) (near folder over) in (here.0, (here.1 free.way).0));
+            free = sym is ∙ free.nothing;
+            new = or_left (is_made drafts path) (among path outputs) free.new;
+            apart = λ other made. apart other (or_true (is_made drafts other) (among other outputs) made);
+          };
+          new = or_behind (is_made drafts path) (among path outputs) free.new;
+          apart = λ other there. apart other (or_right (is_made drafts other) (among other outputs) there);
+        })
+
+    by : (may : Bool) → may_make at.dir path ≡ may
+        → Brings answers (if may then and_then (is_way_blocked at drafts outputs path (between at.dir path)) (λ blocked. and_then (kind_at path) (λ kind. new_output at drafts outputs path blocked kind)) else refused at fault.ForeignOutput)
+        (MayMakeMore answers at.dir drafts outputs)
+    by true may =
+        brings_then answers (is_way_blocked at drafts outputs path (between at.dir path)) (λ blocked. and_then (kind_at path) (λ kind. new_output at drafts outputs path blocked kind)) (IsOpenWay answers drafts outputs path (between at.dir path)) (MayMakeMore answers at.dir drafts outputs)
+        (brings_way answers at drafts outputs path (between at.dir path))
+        (λ blocked way. brings_then answers (kind_at path) (λ kind. new_output at drafts outputs path blocked kind) (λ kind. kind ≡ told_at answers path) (MayMakeMore answers at.dir drafts outputs)
+        (brings_kind answers path) (made (and_parts (is_below at.dir path) (not (is_reserved path)) may).0 blocked way))
+    by false may = brings_refused Names answers at fault.ForeignOutput (MayMakeMore answers at.dir drafts outputs)
+
+-- a path that is one of these or the last
+among_more : (paths : List Names) (path other : Names) → among other (paths ++ path ∷ []) ≡ true → (among other paths ≡ true) ⊎ (other ≡ path)
+among_more paths path other e = by (among other paths) refl (sym (list_any-append (same_path other) paths (path ∷ [])) ∙ e)
+  where
+    last : (b : Bool) → (b || false) ≡ true → b ≡ true
+    last true e = refl
+    last false e = e
+
+    by : (b : Bool) → among other paths ≡ b → (b || (same_path other path || false)) ≡ true → (among other paths ≡ true) ⊎ (other ≡ path)
+    by true there e = inl there
+    by false new e = inr ((same_path-decides other path).0 (last (same_path other path) e))
+
+one_more_output : (answers : Question → Told) (dir : Names) (drafts : List Draft) (outputs : List Names) (path : Names) → MayMakeAll answers dir drafts outputs → MayMakeMore answers dir drafts outputs path
+    → MayMakeAll answers dir drafts (outputs ++ path ∷ [])
+one_more_output answers dir drafts outputs path some may = record {
+  all = All-push (MayMake answers dir drafts) outputs path some.all may.may;
+  once = once_more outputs path some.once may.new;
+  flat = λ one other here there. by one other (among_more outputs path one here) (among_more outputs path other there);
+}
+  where
+    under : (other : Names) → among other outputs ≡ true → IsBelow dir other
+    under other there = (all_at (MayMake answers dir drafts) outputs other some.all there).below
+
+    by : (one other : Names) → (among one outputs ≡ true) ⊎ (one ≡ path) → (among other outputs ≡ true) ⊎ (other ≡ path) → IsBelow one other → ⊥
+    by one other (inl here) (inl there) = some.flat one other here there
+    by one other (inl here) (inr last) = λ over. (may.apart one here (under one here)).0 (subst (IsBelow one) last over)
+    by one other (inr last) (inl there) = λ over. (may.apart other there (under other there)).1 (subst (λ p. IsBelow p other) last over)
+    by one other (inr last) (inr same) = λ over. false≢true (sym (not_below_itself path) ∙ below_so path path (subst (IsBelow path) same (subst (λ p. IsBelow p other) last over)))
 
 brings_output : (answers : Question → Told) (at : Spot) (parts : FlagParts) (drafts : List Draft) (outputs : List Names) (word : List ℕ)
     → Brings answers (from_output at parts drafts outputs word) (MayMakeMore answers at.dir drafts outputs)
@@ -301,11 +465,11 @@ brings_outputs answers at parts drafts outputs [] all = brings_gives answers out
 brings_outputs answers at parts drafts outputs (word ∷ more) all =
     brings_then answers (from_output at parts drafts outputs word) (λ path. from_outputs at parts drafts (outputs ++ path ∷ []) more) (MayMakeMore answers at.dir drafts outputs) (MayMakeAll answers at.dir drafts)
     (brings_output answers at parts drafts outputs word)
-    (λ path may. brings_outputs answers at parts drafts (outputs ++ path ∷ []) more (All-push (MayMake answers at.dir drafts) outputs path all.0 may.0, once_more outputs path all.1 may.1))
+    (λ path may. brings_outputs answers at parts drafts (outputs ++ path ∷ []) more (one_more_output answers at.dir drafts outputs path all may))
 
 no_outputs : (answers : Question → Told) (dir : Names) (drafts : List Draft) → MayMakeAll answers dir drafts []
 unfolding IsDistinct
-no_outputs answers dir drafts = (All-nil (MayMake answers dir drafts), tt)
+no_outputs answers dir drafts = record { all = All-nil (MayMake answers dir drafts); once = tt; flat = λ one other there. absurd (false≢true there) }
 
 -- a command keeps to it, whatever it says
 brings_text : (answers : Question → Told) (at : Spot) (words : Words) (group : Option GroupRef) (drafts : List Draft) (parts : FlagParts) (outputs : List Names)
@@ -314,7 +478,7 @@ brings_text : (answers : Question → Told) (at : Spot) (words : Words) (group :
 unfolding with_text
 brings_text answers at words group drafts parts outputs takes order makes =
     brings_behind answers (spoken at parts words.command) (λ said. gives (draft_of at group parts outputs said)) (IsSound answers at.dir drafts)
-    (λ said. brings_gives answers (draft_of at group parts outputs said) (IsSound answers at.dir drafts) (record { inputs = takes; order = order; outputs = makes.0; once = makes.1 }))
+    (λ said. brings_gives answers (draft_of at group parts outputs said) (IsSound answers at.dir drafts) (record { inputs = takes; order = order; outputs = makes.all; once = makes.once; flat = makes.flat }))
 
 brings_extra : (answers : Question → Told) (at : Spot) (words : Words) (group : Option GroupRef) (drafts : List Draft) (parts : FlagParts)
     → All (MayTake answers drafts) parts.inputs → All (MayTake answers drafts) parts.order → MayMakeAll answers at.dir drafts parts.outputs

@@ -1,5 +1,6 @@
 pub mod Last
 pub mod Making
+pub mod Below
 pub mod State
 pub mod Caret
 pub mod Cut

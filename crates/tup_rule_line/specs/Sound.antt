@@ -1,8 +1,10 @@
 -- What is true of the rules of every reading (own), whoever answers: they can be run in the order of their lines.
-use Rattle.std.specs.Prelude.{◌≡◌, ◌⊎◌, ℕ, true, false, List, [], ◌∷◌, ◌++◌, All}
+use Rattle.std.specs.Prelude.{◌≡◌, ◌≢◌, ◌⊎◌, ℕ, true, false, List, [], ◌∷◌, ◌++◌, codes, All}
 use Rattle.std.specs.List.{IsDistinct}
 use Rattle.tup_path.specs.Name.{Names}
 use Rattle.tup_path.specs.Order.{same_path}
+use Rattle.tup_path.specs.Tree.{IsBelow}
+use Rattle.tup_rule.specs.Rule.{among}
 use Rattle.tup_rule.specs.declared.draft.Draft.{Draft}
 use Rattle.tup_rule.specs.declared.question.Kind.{Kind}
 use Rattle.tup_rule.specs.declared.question.Kind.TheVariants.{File, Nothing}
@@ -24,20 +26,28 @@ NamesFiles answers = (dir : Names) → All (λ name. told_at answers (dir ++ nam
 abbrev pub MayTake : (Question → Told) → List Draft → Names → Type 0
 MayTake answers before path = (told_at answers path ≡ File) ⊎ (is_made before path ≡ true)
 
--- a rule makes a file of the folder itself where nothing stands, and which no rule before it makes
+-- none of these paths lies below another
+abbrev pub AreFlat : List Names → Type 0
+AreFlat paths = (one other : Names) → among one paths ≡ true → among other paths ≡ true → IsBelow one other → ⊥
+
+-- a rule makes a file below the folder where nothing stands, and which no rule before it makes. On the way to it stand
+-- only folders, which have no Tupfile. No output of a rule before it lies on that way or below the file
 pub record MayMake (answers : Question → Told) (dir : Names) (before : List Draft) (path : Names) : Type 0 where
-  pub name : List ℕ
-  pub own : path ≡ dir ++ name ∷ []
+  pub below : IsBelow dir path
+  pub way : (folder : Names) → IsBelow dir folder → IsBelow folder path
+      → (told_at answers (folder ++ codes "Tupfile" ∷ []) ≢ File) × (told_at answers folder ≢ File)
   pub free : told_at answers path ≡ Nothing
   pub new : is_made before path ≡ false
+  pub apart : (other : Names) → is_made before other ≡ true → IsBelow dir other → (IsBelow other path → ⊥) × (IsBelow path other → ⊥)
 
 -- a rule keeps to that
 pub record IsSound (answers : Question → Told) (dir : Names) (before : List Draft) (draft : Draft) : Type 0 where
   pub inputs : All (MayTake answers before) draft.inputs
   pub order : All (MayTake answers before) draft.order
   pub outputs : All (MayMake answers dir before) draft.outputs
-  -- no output is named twice
+  -- no output is named twice, and none lies below another
   pub once : IsDistinct same_path draft.outputs
+  pub flat : AreFlat draft.outputs
 
 -- and so does each of some rules behind others
 abbrev pub AreSound : (Question → Told) → Names → List Draft → List Draft → Type 0

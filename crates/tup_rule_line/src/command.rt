@@ -60,7 +60,7 @@ fn with_job<E: Env>(
         (asker (E.answers env.new) (E.stopped env.new) (E.asked env.new) log.new) result }
 {
     let draft = drafted(alloc, env, log, at, words, sources, &state.drafts, job)?;
-    Ok(with_draft(state, &words.bin, draft)?)
+    Ok(with_draft(alloc, state, &words.bin, draft)?)
 }
 
 /// A command as a draft.
@@ -270,16 +270,21 @@ fn draft_in(
 }
 
 /// The state with one more rule, whose outputs go to its bin.
-fn with_draft(state: State, bin: &Option<Text>, draft: Draft) -> Result<State, AllocError>
+fn with_draft(
+    alloc: Global,
+    state: State,
+    bin: &Option<Text>,
+    draft: Draft,
+) -> Result<State, AllocError>
     ensures { IfOk result (λ next. next ≡ specs.with_draft state bin.now draft) }
 {
     let mut state = state;
     give(&mut state.bins, bin, draft.outputs.as_slice())?;
-    with_made(state, draft)
+    with_made(alloc, state, draft)
 }
 
 /// The state with one more rule.
-fn with_made(state: State, draft: Draft) -> Result<State, AllocError>
+fn with_made(alloc: Global, state: State, draft: Draft) -> Result<State, AllocError>
     ensures { IfOk result (λ next. next ≡ specs.with_made state draft) }
 {
     let State {
@@ -288,7 +293,7 @@ fn with_made(state: State, draft: Draft) -> Result<State, AllocError>
         bins,
         drafts,
     } = state;
-    let drafts = drafts.with(draft)?;
+    let drafts = drafts.with(alloc, draft)?;
     Ok(State {
         variables,
         macros,

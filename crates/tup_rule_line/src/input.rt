@@ -217,7 +217,7 @@ fn is_there(drafts: &Made, path: &Path, kind: Kind) -> bool
 }
 
 /// Whether a file stands there.
-fn is_file(kind: Kind) -> bool
+pub(crate) fn is_file(kind: Kind) -> bool
     ensures { result ≡ specs.is_file kind }
 {
     matches!(kind, Kind::File)

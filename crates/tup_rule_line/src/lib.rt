@@ -18,10 +18,12 @@ mod last;
 mod macro_line;
 mod made;
 mod output;
+mod path_set;
 mod places;
 mod rule_line;
 mod span_text;
 mod state;
+mod way;
 mod words;
 
 pub use folder::{file_in, led};

@@ -1,10 +1,11 @@
 //! The rules so far, and what they make.
 ghost use Rattle.std.specs.Prelude.{◌≡◌, ◌++◌, ◌∷◌, [], IfOk};
 ghost use Rattle.tup_rule.specs.Rule.{among};
-ghost use Rattle.tup_rule_line.specs.Making.{is_made};
+ghost use Rattle.std.specs.List.{list_any};
+ghost use Rattle.tup_rule_line.specs.Below.{is_below};
+ghost use Rattle.tup_rule_line.specs.Making.{made_by, is_made};
 
-use crate::places::add_paths;
-use indexmap::IndexSet;
+use crate::path_set::PathSet;
 use std::alloc::{AllocError, Global};
 use std::marker::Model;
 use tup_path::Path;
@@ -15,7 +16,7 @@ use tup_rule::{Draft, Drafts};
 #[derive(Drop)]
 pub struct Made {
     drafts: Drafts,
-    outputs: IndexSet<Path>,
+    outputs: PathSet,
 }
 
 impl Model for Made {
@@ -27,7 +28,7 @@ impl Model for Made {
 
     ghost view = { λ made. made.drafts };
 
-    ghost invariant = { λ made. Knows made.outputs.keys made.drafts };
+    ghost invariant = { λ made. Knows made.outputs made.drafts };
 }
 
 impl Made {
@@ -37,7 +38,7 @@ impl Made {
     {
         Made {
             drafts: Drafts::new(alloc),
-            outputs: IndexSet::new(alloc),
+            outputs: PathSet::new(alloc),
         }
     }
 
@@ -59,18 +60,25 @@ impl Made {
     pub(crate) fn has(&self, path: &Path) -> bool
         ensures { result ≡ is_made self.now path.now }
     {
-        self.outputs.contains(path)
+        self.outputs.has(path)
+    }
+
+    /// Whether an output of one of the rules lies below a path.
+    pub(crate) fn has_below(&self, path: &Path) -> bool
+        ensures { result ≡ list_any (is_below path.now) (made_by self.now) }
+    {
+        self.outputs.has_below(path)
     }
 
     /// One more rule at the end.
-    pub(crate) fn with(self, draft: Draft) -> Result<Made, AllocError>
+    pub(crate) fn with(self, alloc: Global, draft: Draft) -> Result<Made, AllocError>
         ensures { IfOk result (λ made. made ≡ self ++ draft ∷ []) }
     {
         let Made {
             mut drafts,
-            mut outputs,
+            outputs,
         } = self;
-        add_paths(&mut outputs, draft.outputs.as_slice())?;
+        let outputs = outputs.with_all(alloc, draft.outputs.as_slice())?;
         drafts.push(draft)?;
         Ok(Made { drafts, outputs })
     }

@@ -1,14 +1,13 @@
 //! The output words of a rule.
 ghost use Rattle.std.specs.Prelude.{◌≡◌, ◌||◌, false, is_some};
-ghost use Rattle.tup_rule.specs.Rule.{among};
-ghost use Rattle.tup_rule_line.specs.State as made;
 ghost use Rattle.tup_rule_line.specs.Output as specs;
 ghost use Rattle.tup_query.specs.Went.{Went, asker, Gives};
 
 use crate::flagged::flagged_text;
-use crate::folder::{led, name_in};
+use crate::folder::led;
 use crate::made::Made;
 use crate::places::Places;
+use crate::way::{is_taken, is_way_blocked};
 use std::alloc::Global;
 use tup_flags::FlagParts;
 use tup_lex::ParseKind;
@@ -35,7 +34,7 @@ pub(crate) fn from_outputs<E: Env>(
     let mut outputs = before;
     for word in words {
         let path = from_output(alloc, env, log, at, parts, drafts, &outputs, word)?;
-        outputs = outputs.with(path)?;
+        outputs = outputs.with(alloc, path)?;
     }
     Ok(outputs)
 }
@@ -79,19 +78,22 @@ fn known_output<E: Env>(
     if !may_make(at.dir(), &path) {
         return Err(at.refuse(ParseKind::ForeignOutput));
     }
+    let blocked = is_way_blocked(alloc, env, log, at, drafts, outputs, &path)?;
     let kind = kind_at(alloc, env, log, &path)?;
-    new_output(at, drafts, outputs, path, kind)
+    new_output(at, drafts, outputs, path, blocked, kind)
 }
 
-/// An output by what stands at its path: no output before it, no source and no folder.
+/// An output by what stands at its path and on the way to it: no output before it, no source and no folder,
+/// nothing above it but folders, and no output below it.
 fn new_output(
     at: &Spot,
     drafts: &Made,
     outputs: &Places,
     path: Path,
+    blocked: bool,
     kind: Kind,
 ) -> Result<Path, ReadEnd>
-    ensures { Gives (specs.new_output at.now drafts.now outputs.now path kind) result }
+    ensures { Gives (specs.new_output at.now drafts.now outputs.now path blocked kind) result }
 {
     if is_taken(drafts, outputs, &path) {
         return Err(at.refuse(ParseKind::DuplicateOutput));
@@ -99,35 +101,64 @@ fn new_output(
     match kind {
         Kind::File => Err(at.refuse(ParseKind::OutputIsSource)),
         Kind::Dir => Err(at.refuse(ParseKind::OutputIsDir)),
-        Kind::Nothing => Ok(path),
+        Kind::Nothing => lone_output(at, drafts, outputs, path, blocked),
     }
 }
 
-/// Whether a path is an output already.
-fn is_taken(drafts: &Made, outputs: &Places, path: &Path) -> bool
-    ensures { result
-        ≡ (made.is_made drafts.now path.now || among path.now outputs.now) }
+/// An output where nothing stands, by what is above it and below it.
+fn lone_output(
+    at: &Spot,
+    drafts: &Made,
+    outputs: &Places,
+    path: Path,
+    blocked: bool,
+) -> Result<Path, ReadEnd>
+    ensures { Gives (specs.lone_output at.now drafts.now outputs.now path blocked) result }
 {
-    drafts.has(path) || outputs.has(path)
+    if is_shut(drafts, outputs, &path, blocked) {
+        return Err(at.refuse(ParseKind::OutputBelowFile));
+    }
+    Ok(path)
+}
+
+/// Whether a path can't be a file: the way to it is blocked, or an output so far lies below it.
+fn is_shut(drafts: &Made, outputs: &Places, path: &Path, blocked: bool) -> bool
+    ensures { result ≡ (blocked || specs.is_above_one drafts.now outputs.now path.now) }
+{
+    blocked || is_above_one(drafts, outputs, path)
+}
+
+/// Whether an output so far lies below a path.
+fn is_above_one(drafts: &Made, outputs: &Places, path: &Path) -> bool
+    ensures { result ≡ specs.is_above_one drafts.now outputs.now path.now }
+{
+    drafts.has_below(path) || outputs.has_below(path)
 }
 
 /// Whether a rule of a folder may make a path.
 fn may_make(dir: &Path, path: &Path) -> bool
     ensures { result ≡ specs.may_make dir.now path.now }
 {
-    match name_in(dir, path) {
-        Some(name) => !is_reserved(dir, name.as_str()),
+    path.is_below(dir) && !is_reserved(path)
+}
+
+/// Whether a path is that of a file that says what to build.
+fn is_reserved(path: &Path) -> bool
+    ensures { result ≡ specs.is_reserved path.now }
+{
+    match path.names().split_last() {
+        Some((name, folder)) => says_what_to_build(folder.is_empty(), name.as_str()),
         None => false,
     }
 }
 
-/// Whether a file of this name in a folder says what to build.
-fn is_reserved(dir: &Path, name: &str) -> bool
-    ensures { result ≡ specs.is_reserved dir.now name.now }
+/// Whether a file of this name, in the top folder or another, says what to build.
+fn says_what_to_build(at_top: bool, name: &str) -> bool
+    ensures { result ≡ specs.says_what_to_build at_top name.now }
 {
     match name {
         "Tupfile" | "Tuprules.tup" => true,
-        "tup.config" => dir.depth() == 0,
+        "tup.config" => at_top,
         _ => false,
     }
 }

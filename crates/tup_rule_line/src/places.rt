@@ -1,10 +1,10 @@
 //! Paths in order, with a set of them.
-ghost use Rattle.std.specs.Prelude.{◌≡◌, ◌++◌, ◌∷◌, [], IfOk, OnOk, fold};
-ghost use Rattle.tup_path.specs.Order.{same_path};
+ghost use Rattle.std.specs.Prelude.{◌≡◌, ◌++◌, ◌∷◌, [], IfOk};
+ghost use Rattle.std.specs.List.{list_any};
 ghost use Rattle.tup_rule.specs.Rule.{among};
-ghost use Rattle.indexmap.specs.IndexSet.{insert_key};
+ghost use Rattle.tup_rule_line.specs.Below.{is_below};
 
-use indexmap::IndexSet;
+use crate::path_set::PathSet;
 use std::alloc::{AllocError, Global};
 use std::marker::Model;
 use tup_path::{Path, Paths};
@@ -13,7 +13,7 @@ use tup_path::{Path, Paths};
 #[derive(Drop)]
 pub(crate) struct Places {
     paths: Paths,
-    set: IndexSet<Path>,
+    set: PathSet,
 }
 
 impl Model for Places {
@@ -25,7 +25,7 @@ impl Model for Places {
 
     ghost view = { λ places. places.paths };
 
-    ghost invariant = { λ places. HasPaths places.set.keys places.paths };
+    ghost invariant = { λ places. HasPaths places.set places.paths };
 }
 
 impl Places {
@@ -35,7 +35,7 @@ impl Places {
     {
         Places {
             paths: Paths::new(alloc),
-            set: IndexSet::new(alloc),
+            set: PathSet::new(alloc),
         }
     }
 
@@ -44,8 +44,7 @@ impl Places {
         ensures { IfOk result (λ places. places ≡ paths.now) }
     {
         let paths = paths.clone()?;
-        let mut set = IndexSet::new(alloc);
-        add_paths(&mut set, paths.as_slice())?;
+        let set = PathSet::new(alloc).with_all(alloc, paths.as_slice())?;
         Ok(Places { paths, set })
     }
 
@@ -53,15 +52,22 @@ impl Places {
     pub(crate) fn has(&self, path: &Path) -> bool
         ensures { result ≡ among path.now self.now }
     {
-        self.set.contains(path)
+        self.set.has(path)
+    }
+
+    /// Whether one of them lies below a path.
+    pub(crate) fn has_below(&self, path: &Path) -> bool
+        ensures { result ≡ list_any (is_below path.now) self.now }
+    {
+        self.set.has_below(path)
     }
 
     /// One more path at the end.
-    pub(crate) fn with(self, path: Path) -> Result<Places, AllocError>
+    pub(crate) fn with(self, alloc: Global, path: Path) -> Result<Places, AllocError>
         ensures { IfOk result (λ places. places ≡ self ++ path ∷ []) }
     {
-        let Places { mut paths, mut set } = self;
-        set.insert(path.clone()?)?;
+        let Places { mut paths, set } = self;
+        let set = set.with(alloc, path.clone()?)?;
         paths.push(path)?;
         Ok(Places { paths, set })
     }
@@ -72,14 +78,4 @@ impl Places {
     {
         self.paths
     }
-}
-
-/// Adds paths to a set, each unless it is there.
-pub(crate) fn add_paths(set: &mut IndexSet<Path>, paths: &[Path]) -> Result<(), AllocError>
-    ensures { OnOk result (set.new.keys ≡ fold (insert_key same_path) set.old.keys paths.now) }
-{
-    for path in paths {
-        set.insert(path.clone()?)?;
-    }
-    Ok(())
 }

@@ -3,6 +3,7 @@ pub mod Stamped
 pub mod Paths
 pub mod Indexed
 pub mod Named
+pub mod Homing
 pub mod Answered
 pub mod Beside
 pub mod Staled

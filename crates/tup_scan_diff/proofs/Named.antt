@@ -1,17 +1,18 @@
 -- Names of the files in a folder, one after another.
-use Rattle.std.specs.Prelude.{◌≡◌, ◌≢◌, ◌⊎◌, ◌↔◌, ◌+◌, ◌<◌, ℕ, Bool, true, false, not, List, [], ◌∷◌, ◌++◌, Option, Contains, length}
+use Rattle.std.specs.Prelude.{◌≡◌, ◌⊎◌, ◌↔◌, ◌+◌, ◌<◌, ℕ, Bool, true, false, not, List, [], ◌∷◌, ◌++◌, Option, Contains, length}
 use Rattle.std.proofs.Common.{refl, sym, subst, ◌∙◌, inl, inr, take, get_or, arith}
 use Rattle.std.specs.BTreeSet.{BTreeSet, IsOrdered}
 use Rattle.std.specs.List.Sorted.{IsStrictlySortedBy}
+use Rattle.std.specs.declared.cmp.Ordering.{Ordering}
 use Rattle.std.specs.Ordering.{eq_by_cmp}
 use Rattle.std.specs.Prelude.{Decides}
 use Rattle.std.proofs.lemmas.Bool.{true≢false}
 use Rattle.std.proofs.lemmas.List.Elements.{Contains-push, Contains-push_cases, Contains-append_left}
 use Rattle.tup_path.specs.Name.{Names, Content}
-use Rattle.tup_path.specs.Order.{by_bytes, same_path}
+use Rattle.tup_path.specs.Order.{by_bytes, by_names, same_path}
 use Rattle.tup_path.proofs.Same.{same_path-decides}
 use Rattle.tup_rule.specs.declared.draft.Draft.{Draft}
-use Rattle.tup_graph.specs.Answers.{IsFileFor, IsOutputOf}
+use Rattle.tup_graph.specs.Answers.{IsDrafted, IsFileFor}
 use Rattle.tup_graph.specs.Graph.{GraphState, source}
 use Rattle.tup_graph.proofs.Maps.{by_bytes-antisymmetric, equal_of}
 use Rattle.std.specs.Cmp.{eq_by_cmp_equiv}
@@ -23,7 +24,7 @@ use Rattle.tup_scan_diff.specs.Told.{AreNames}
 use Rattle.tup_closure.proofs.Ordered.{same_members}
 use Rattle.tup_scan_diff.proofs.Paths.{below_its_folder, none_below_top, one_folder, one_name}
 use Rattle.tup_scan_diff.proofs.Sets.{set_on, set_as}
-use Rattle.tup_scan_diff.specs.Names.{IsIn, IsDraftedIn, IsMadeIn}
+use Rattle.tup_scan_diff.specs.Names.{IsIn, IsDraftedIn, IsOutputIn}
 use Rattle.tup_scan_diff.specs.Sets.{Has, GrowsBy}
 use Rattle.tup_scan_diff.specs.Present.{IsPresent, graph_of}
 use Rattle.tup_scan_diff.specs.declared.present.Present.{Present}
@@ -36,26 +37,23 @@ name-decides x y = (
 )
 
 -- one more element of a list
-module _ {X : Type 0} (P : List X → List ℕ → Type 0) (One : X → List ℕ → Type 0) (xs : List X) (i : ℕ) (x d : X) (less : i < length xs) (here : x ≡ get_or xs i d)
-    (to : (n : List ℕ) → P (take i xs) n ⊎ One x n → P (take i xs ++ x ∷ []) n) (from : (n : List ℕ) → P (take i xs ++ x ∷ []) n → P (take i xs) n ⊎ One x n) where
-  pub names_more : {a b c : BTreeSet (List ℕ)} → GrowsBy by_bytes (P (take i xs)) a b → GrowsBy by_bytes (One x) b c → GrowsBy by_bytes (P (take (i + 1) xs)) a c
-  names_more {a} {b} {c} first one = subst (λ (l : List X). GrowsBy by_bytes (P l) a c) (sym (taken xs i x d less here)) (set_as to from (set_on first one))
+module _ {X K : Type 0} {cmp : K → K → Ordering} (P : List X → K → Type 0) (One : X → K → Type 0) (xs : List X) (i : ℕ) (x d : X) (less : i < length xs) (here : x ≡ get_or xs i d)
+    (to : (k : K) → P (take i xs) k ⊎ One x k → P (take i xs ++ x ∷ []) k) (from : (k : K) → P (take i xs ++ x ∷ []) k → P (take i xs) k ⊎ One x k) where
+  pub names_more : {a b c : BTreeSet K} → GrowsBy cmp (P (take i xs)) a b → GrowsBy cmp (One x) b c → GrowsBy cmp (P (take (i + 1) xs)) a c
+  names_more {a} {b} {c} first one = subst (λ (l : List X). GrowsBy cmp (P l) a c) (sym (taken xs i x d less here)) (set_as to from (set_on first one))
 
--- one name more
-pub name_pushed : (names : List (List ℕ)) (name : List ℕ) (a b c : BTreeSet (List ℕ)) → GrowsBy by_bytes (Contains names) a b → GrowsBy by_bytes (λ n. n ≡ name) b c → GrowsBy by_bytes (Contains (names ++ name ∷ [])) a c
-name_pushed names name a b c first one = set_as to from (set_on first one)
-  where
-    to : (n : List ℕ) → Contains names n ⊎ (n ≡ name) → Contains (names ++ name ∷ []) n
-    to n (inl h) = Contains-append_left names (name ∷ []) n h
-    to n (inr e) = subst (Contains (names ++ name ∷ [])) (sym e) (Contains-push names name)
+-- one key more
+module _ {K : Type 0} {cmp : K → K → Ordering} where
+  pub listed_more : (keys : List K) (i : ℕ) (key d : K) (a b c : BTreeSet K) → i < length keys → key ≡ get_or keys i d
+      → GrowsBy cmp (Contains (take i keys)) a b → GrowsBy cmp (λ k. k ≡ key) b c → GrowsBy cmp (Contains (take (i + 1) keys)) a c
+  listed_more keys i key d a b c less here = names_more Contains (λ one k. k ≡ one) keys i key d less here to from
+    where
+      to : (k : K) → Contains (take i keys) k ⊎ (k ≡ key) → Contains (take i keys ++ key ∷ []) k
+      to k (inl h) = Contains-append_left (take i keys) (key ∷ []) k h
+      to k (inr e) = subst (Contains (take i keys ++ key ∷ [])) (sym e) (Contains-push (take i keys) key)
 
-    from : (n : List ℕ) → Contains (names ++ name ∷ []) n → Contains names n ⊎ (n ≡ name)
-    from n h = elim (Contains-push_cases names name n h) [ inl before ↦ inl before | inr last ↦ inr (sym last) ]
-
-pub listed_more : (names : List (List ℕ)) (i : ℕ) (name d : List ℕ) (a b c : BTreeSet (List ℕ)) → i < length names → name ≡ get_or names i d
-    → GrowsBy by_bytes (Contains (take i names)) a b → GrowsBy by_bytes (λ n. n ≡ name) b c → GrowsBy by_bytes (Contains (take (i + 1) names)) a c
-listed_more names i name d a b c less here first one =
-    subst (λ (l : List (List ℕ)). GrowsBy by_bytes (Contains l) a c) (sym (taken names i name d less here)) (name_pushed (take i names) name a b c first one)
+      from : (k : K) → Contains (take i keys ++ key ∷ []) k → Contains (take i keys) k ⊎ (k ≡ key)
+      from k h = elim (Contains-push_cases (take i keys) key k h) [ inl before ↦ inl before | inr last ↦ inr (sym last) ]
 
 pub paths_more : (dir : Names) (paths : List Names) (i : ℕ) (path d : Names) (a b c : BTreeSet (List ℕ)) → i < length paths → path ≡ get_or paths i d
     → GrowsBy by_bytes (IsIn (take i paths) dir) a b → GrowsBy by_bytes (λ name. path ≡ dir ++ name ∷ []) b c → GrowsBy by_bytes (IsIn (take (i + 1) paths) dir) a c
@@ -68,19 +66,27 @@ paths_more dir paths i path d a b c less here = names_more (λ l. IsIn l dir) (�
     from : (n : List ℕ) → IsIn (take i paths ++ path ∷ []) dir n → IsIn (take i paths) dir n ⊎ (path ≡ dir ++ n ∷ [])
     from n h = Contains-push_cases (take i paths) path (dir ++ n ∷ []) h
 
+-- one draft more
+draft_pushed : (drafts : List Draft) (draft : Draft) (path : Names) → IsDrafted drafts path ⊎ Contains draft.outputs path → IsDrafted (drafts ++ draft ∷ []) path
+draft_pushed drafts draft path (inl (one, h, in_it)) = (one, Contains-append_left drafts (draft ∷ []) one h, in_it)
+draft_pushed drafts draft path (inr in_it) = (draft, Contains-push drafts draft, in_it)
+
+pushed_draft : (drafts : List Draft) (draft : Draft) (path : Names) → IsDrafted (drafts ++ draft ∷ []) path → IsDrafted drafts path ⊎ Contains draft.outputs path
+pushed_draft drafts draft path (one, h, in_it) = elim (Contains-push_cases drafts draft one h) [
+  | inl before ↦ inl (one, before, in_it)
+  | inr last ↦ inr (subst (λ (o : Draft). Contains o.outputs path) (sym last) in_it)
+]
+
 pub drafts_more : (dir : Names) (drafts : List Draft) (i : ℕ) (draft d : Draft) (a b c : BTreeSet (List ℕ)) → i < length drafts → draft ≡ get_or drafts i d
     → GrowsBy by_bytes (IsDraftedIn (take i drafts) dir) a b → GrowsBy by_bytes (IsIn draft.outputs dir) b c → GrowsBy by_bytes (IsDraftedIn (take (i + 1) drafts) dir) a c
-drafts_more dir drafts i draft d a b c less here = names_more (λ l. IsDraftedIn l dir) (λ (one : Draft). IsIn one.outputs dir) drafts i draft d less here to from
-  where
-    to : (n : List ℕ) → IsDraftedIn (take i drafts) dir n ⊎ IsIn draft.outputs dir n → IsDraftedIn (take i drafts ++ draft ∷ []) dir n
-    to n (inl (one, h, in_it)) = (one, Contains-append_left (take i drafts) (draft ∷ []) one h, in_it)
-    to n (inr in_it) = (draft, Contains-push (take i drafts) draft, in_it)
+drafts_more dir drafts i draft d a b c less here =
+    names_more (λ l. IsDraftedIn l dir) (λ (one : Draft). IsIn one.outputs dir) drafts i draft d less here
+    (λ n. draft_pushed (take i drafts) draft (dir ++ n ∷ [])) (λ n. pushed_draft (take i drafts) draft (dir ++ n ∷ []))
 
-    from : (n : List ℕ) → IsDraftedIn (take i drafts ++ draft ∷ []) dir n → IsDraftedIn (take i drafts) dir n ⊎ IsIn draft.outputs dir n
-    from n (one, h, in_it) = elim (Contains-push_cases (take i drafts) draft one h) [
-      | inl before ↦ inl (one, before, in_it)
-      | inr last ↦ inr (subst (λ (o : Draft). IsIn o.outputs dir n) (sym last) in_it)
-    ]
+pub outputs_more : (drafts : List Draft) (i : ℕ) (draft d : Draft) (a b c : BTreeSet Names) → i < length drafts → draft ≡ get_or drafts i d
+    → GrowsBy by_names (IsDrafted (take i drafts)) a b → GrowsBy by_names (Contains draft.outputs) b c → GrowsBy by_names (IsDrafted (take (i + 1) drafts)) a c
+outputs_more drafts i draft d a b c less here =
+    names_more IsDrafted (λ (one : Draft). Contains one.outputs) drafts i draft d less here (draft_pushed (take i drafts) draft) (pushed_draft (take i drafts) draft)
 
 -- ---- all names of a folder
 
@@ -88,40 +94,14 @@ module _ (present : Present) (config : Option Content) (is : IsPresent config pr
   abbrev g : GraphState
   g = graph_of present
 
-  made : (name : List ℕ) → IsMadeIn present dir name → IsOutputOf (source g) g.readings dir (dir ++ name ∷ [])
-  made name (reading, kept, tup, (draft, h, in_it)) = record {
-    reading = reading;
-    kept = kept;
-    has_tupfile = (is.index.tupfiles dir).0 tup;
-    drafted = (draft, h, in_it);
-  }
-
-  makes : (name : List ℕ) → IsOutputOf (source g) g.readings dir (dir ++ name ∷ []) → IsMadeIn present dir name
-  makes name out = (out.reading, out.kept, (is.index.tupfiles dir).1 out.has_tupfile, out.drafted)
-
-  -- the names of the sources, where the folder is the one that is read
-  pub own_names : (first all : BTreeSet (List ℕ)) → first.keys ≡ [] → GrowsBy by_bytes (Contains (list_of present.index.names dir)) first all → dir ≡ reader
+  -- those of the sources, and of the outputs that the reading is told of there
+  pub all_names : (first mid all : BTreeSet (List ℕ)) → first.keys ≡ [] → GrowsBy by_bytes (Contains (list_of present.index.names dir)) first mid → GrowsBy by_bytes (IsOutputIn present reader dir) mid all
       → (name : List ℕ) → Has by_bytes all name ↔ IsFileFor (source g) g.readings reader dir name
-  own_names first all empty sources e name = (
-    λ h. named (sources.keys.only name h),
-    λ file. elim file [
-      | inl here ↦ sources.keys.all name ((is.index.names dir name).1 here)
-      | inr there ↦ absurd (there.0 e)
-    ],
-  )
-    where
-      named : Has by_bytes first name ⊎ Contains (list_of present.index.names dir) name → IsFileFor (source g) g.readings reader dir name
-      named (inl before) = absurd (true≢false (sym before ∙ in_empty by_bytes name-decides first name empty))
-      named (inr listed) = inl ((is.index.names dir name).0 listed)
-
-  -- and of another folder those of its outputs too
-  pub other_names : (first mid all : BTreeSet (List ℕ)) → first.keys ≡ [] → GrowsBy by_bytes (Contains (list_of present.index.names dir)) first mid → GrowsBy by_bytes (IsMadeIn present dir) mid all → dir ≢ reader
-      → (name : List ℕ) → Has by_bytes all name ↔ IsFileFor (source g) g.readings reader dir name
-  other_names first mid all empty sources outputs apart name = (
+  all_names first mid all empty sources outputs name = (
     λ h. named (outputs.keys.only name h),
     λ file. elim file [
       | inl here ↦ outputs.keys.kept name (sources.keys.all name ((is.index.names dir name).1 here))
-      | inr there ↦ outputs.keys.all name (makes name there.1)
+      | inr there ↦ outputs.keys.all name there
     ],
   )
     where
@@ -129,9 +109,9 @@ module _ (present : Present) (config : Option Content) (is : IsPresent config pr
       from_sources (inl before) = absurd (true≢false (sym before ∙ in_empty by_bytes name-decides first name empty))
       from_sources (inr listed) = inl ((is.index.names dir name).0 listed)
 
-      named : Has by_bytes mid name ⊎ IsMadeIn present dir name → IsFileFor (source g) g.readings reader dir name
+      named : Has by_bytes mid name ⊎ IsOutputIn present reader dir name → IsFileFor (source g) g.readings reader dir name
       named (inl before) = from_sources (sources.keys.only name before)
-      named (inr out) = inr (apart, made name out)
+      named (inr out) = inr out
 
   -- a list of them, in order, and another list
   pub are_names : (all : BTreeSet (List ℕ)) (names : List (List ℕ)) → ((name : List ℕ) → Has by_bytes all name ↔ IsFileFor (source g) g.readings reader dir name) → IsOrdered by_bytes all → names ≡ all.keys → AreNames present reader dir names

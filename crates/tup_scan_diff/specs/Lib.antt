@@ -2,6 +2,7 @@ pub mod Sets
 pub mod Present
 pub mod Settings
 pub mod Index
+pub mod Homes
 pub mod Parents
 pub mod Names
 pub mod Made

@@ -6,9 +6,10 @@ ghost use Rattle.std.specs.List.{list_any};
 ghost use Rattle.tup_path.specs.Name.{Names, Content};
 ghost use Rattle.tup_path.specs.Order.{by_names};
 ghost use Rattle.tup_rule.specs.declared.question.Question.TheVariants as asks;
-ghost use Rattle.tup_graph.specs.Answers.{IsKind, IsMadeElsewhere, IsOutputOf, IsSource};
+ghost use Rattle.tup_graph.specs.Answers.{IsKind, IsMadeElsewhere, IsSource};
 ghost use Rattle.tup_graph.specs.Graph.{source};
 ghost use Rattle.tup_closure.specs.Lists.{list_of};
+ghost use Rattle.tup_scan_diff.specs.Index.{HasTupfile};
 ghost use Rattle.tup_scan_diff.specs.Parents.{StandsIn};
 ghost use Rattle.tup_scan_diff.specs.Present.{IsPresent, IsWhole, graph_of};
 ghost use Rattle.tup_scan_diff.specs.Told.{AreNames, AreToldSo, IsToldOtherwise, IsToldSo, Tells};
@@ -33,6 +34,7 @@ impl Present<'_> {
         asked: &[Answered],
     ) -> Result<bool, GraphFault>
         requires present { IsWhole self.now }
+        requires tupfile { HasTupfile self.now.index reader.now }
         requires beside { beside.now ≡ list_of self.now.index.names reader.now }
         ensures stand { (config : Option Content) → IsPresent config self.now
             → IfOk result (λ stand. Tells stand (AreToldSo config self.now reader.now asked.now)
@@ -58,6 +60,7 @@ impl Present<'_> {
         noted: &Noted,
     ) -> Result<bool, GraphFault>
         requires present { IsWhole self.now }
+        requires tupfile { HasTupfile self.now.index reader.now }
         requires beside { beside.now ≡ list_of self.now.index.names reader.now }
         ensures stands { (config : Option Content) → IsPresent config self.now
             → IfOk result (λ stands. Decides stands
@@ -123,6 +126,7 @@ impl Present<'_> {
         noted: &Noted,
     ) -> Result<bool, GraphFault>
         requires present { IsWhole self.now }
+        requires tupfile { HasTupfile self.now.index reader.now }
         requires beside { beside.now ≡ list_of self.now.index.names reader.now }
         ensures stands { IfOk result (λ stands. (config : Option Content)
             → Decides stands (IsToldSo config self.now reader.now (asks.Kind path.now) noted.now)) }
@@ -161,6 +165,7 @@ impl Present<'_> {
         kind: Kind,
     ) -> Result<bool, GraphFault>
         requires present { IsWhole self.now }
+        requires tupfile { HasTupfile self.now.index reader.now }
         requires beside { beside.now ≡ list_of self.now.index.names reader.now }
         ensures kind { IfOk result (λ is. Decides is (IsKind (source (graph_of self.now))
             self.now.nodes.now.readings reader.now path.now kind)) }
@@ -178,6 +183,7 @@ impl Present<'_> {
         path: &Path,
     ) -> Result<Kind, GraphFault>
         requires present { IsWhole self.now }
+        requires tupfile { HasTupfile self.now.index reader.now }
         requires beside { beside.now ≡ list_of self.now.index.names reader.now }
         ensures kind { IfOk result (IsKind (source (graph_of self.now))
             self.now.nodes.now.readings reader.now path.now) }
@@ -192,6 +198,7 @@ impl Present<'_> {
     /// What stands at a path in the folder that is read: no output of its reading is told.
     fn kind_beside(&self, reader: &Path, beside: &[Text], path: &Path, name: &Text) -> Kind
         requires present { IsWhole self.now }
+        requires tupfile { HasTupfile self.now.index reader.now }
         requires beside { beside.now ≡ list_of self.now.index.names reader.now }
         requires parts { path.now ≡ reader.now ++ name.now ∷ [] }
         ensures { IsKind (source (graph_of self.now))
@@ -251,7 +258,7 @@ impl Present<'_> {
         Ok(Kind::Nothing)
     }
 
-    /// Whether a path is an output of the reading of its folder, which is another one than the one that is read.
+    /// Whether a path is an output of the reading of the home of its folder, which is another folder than the one that is read.
     fn is_made_elsewhere(
         &self,
         alloc: Global,
@@ -263,26 +270,13 @@ impl Present<'_> {
             (source (graph_of self.now)) self.now.nodes.now.readings reader.now path.now)) }
         ensures memory { IfErr result (λ fault. fault ≡ GraphFault.Memory) }
     {
-        let Some((dir, name)) = parted(alloc, path)? else {
+        let Some((dir, _)) = parted(alloc, path)? else {
             return Ok(false);
         };
-        if dir == *reader {
+        let Some(home) = self.other_home(alloc, reader, dir)? else {
             return Ok(false);
-        }
-        Ok(self.has_output(&dir, &name, path))
-    }
-
-    /// Whether a path is an output of the reading of its folder, which has a Tupfile. These are its folder and its name there.
-    fn has_output(&self, dir: &Path, name: &Text, path: &Path) -> bool
-        requires present { IsWhole self.now }
-        requires parts { path.now ≡ dir.now ++ name.now ∷ [] }
-        ensures { Decides result (IsOutputOf (source (graph_of self.now))
-            self.now.nodes.now.readings dir.now path.now) }
-    {
-        if !self.index.tupfiles.contains(dir) {
-            return false;
-        }
-        self.made.has(self.nodes, dir, name, path)
+        };
+        Ok(self.made.has(self.nodes, &home, path))
     }
 }
 

@@ -7,6 +7,7 @@
 
 mod answers;
 mod edits;
+mod homes;
 mod index;
 mod laws;
 mod made;

@@ -1,26 +1,26 @@
-//! The outputs of readings, by their folders.
-ghost use Rattle.std.specs.Prelude.{◌≡◌, ◌⊎◌, ◌++◌, ◌∷◌, [], IfOk, IfErr, OnOk};
+//! The outputs of readings.
+ghost use Rattle.std.specs.Prelude.{◌≡◌, ◌⊎◌, Contains, IfOk, IfErr, OnOk};
 ghost use Rattle.std.specs.Bool.{Decides};
-ghost use Rattle.tup_path.specs.Order.{by_bytes};
+ghost use Rattle.tup_path.specs.Order.{by_names};
 ghost use Rattle.tup_rule.specs.Rule.{among};
+ghost use Rattle.tup_graph.specs.Answers.{IsDrafted};
 ghost use Rattle.tup_scan_diff.specs.Made.{AreMade, HasOutput, IsGiven, makes};
-ghost use Rattle.tup_scan_diff.specs.Names.{IsDraftedIn, IsIn};
 ghost use Rattle.tup_scan_diff.specs.Sets.{GrowsBy};
 
 use std::alloc::Global;
 use std::collections::BTreeSet;
 use tup_graph::{GraphFault, Nodes};
-use tup_path::{ByPath, Path, Text};
+use tup_path::{ByPath, Path};
 use tup_rule::Draft;
 
-/// So many outputs of a reading are looked through one after another; where there are more, their names are put into a set.
+/// So many outputs of a reading are looked through one after another; where there are more, they are put into a set.
 const FEW: usize = 32;
 
-/// The outputs of the readings that have many, by their folders.
+/// The outputs of the readings that have many.
 #[derive(Drop)]
 pub(crate) struct Made {
-    /// For each folder whose reading has more than a few outputs, the names of those that stand in it.
-    names: ByPath<BTreeSet<Text>>,
+    /// For each folder whose reading has more than a few outputs, these outputs.
+    outputs: ByPath<BTreeSet<Path>>,
 }
 
 impl Made {
@@ -30,7 +30,7 @@ impl Made {
         ensures memory { IfErr result (λ fault. fault ≡ GraphFault.Memory) }
     {
         let mut made = Made {
-            names: ByPath::new(alloc),
+            outputs: ByPath::new(alloc),
         };
         for (dir, reading) in nodes.readings() {
             made.give_many(alloc, dir, reading.drafts.as_slice())?;
@@ -55,20 +55,19 @@ impl Made {
         ensures given { OnOk result (IsGiven dir.now drafts.now self.old self.new) }
         ensures memory { IfErr result (λ fault. fault ≡ GraphFault.Memory) }
     {
-        let mut names = BTreeSet::new(alloc);
-        add_drafted(&mut names, dir, drafts)?;
-        self.names.insert(dir.clone()?, names)?;
+        let mut outputs = BTreeSet::new(alloc);
+        add_made(&mut outputs, drafts)?;
+        self.outputs.insert(dir.clone()?, outputs)?;
         Ok(())
     }
 
-    /// Whether a path is an output of the reading of its folder. These are its folder and its name there.
-    pub(crate) fn has(&self, nodes: &Nodes, dir: &Path, name: &Text, path: &Path) -> bool
+    /// Whether a path is an output of the reading of a folder.
+    pub(crate) fn has(&self, nodes: &Nodes, dir: &Path, path: &Path) -> bool
         requires made { AreMade nodes.now.readings self.now }
-        requires parts { path.now ≡ dir.now ++ name.now ∷ [] }
         ensures { Decides result (HasOutput nodes.now.readings dir.now path.now) }
     {
-        match self.names.get(dir) {
-            Some(names) => names.contains(name),
+        match self.outputs.get(dir) {
+            Some(outputs) => outputs.contains(path),
             None => reading_makes(nodes, dir, path),
         }
     }
@@ -109,45 +108,25 @@ fn is_among(paths: &[Path], path: &Path) -> bool
     paths.iter().any(|one| path == one)
 }
 
-/// Adds the names of those outputs of drafts that stand in a folder.
-pub(crate) fn add_drafted(
-    names: &mut BTreeSet<Text>,
-    dir: &Path,
-    drafts: &[Draft],
-) -> Result<(), GraphFault>
-    ensures names { OnOk result
-        (GrowsBy by_bytes (IsDraftedIn drafts.now dir.now) names.old names.new) }
+/// Adds the outputs of drafts.
+fn add_made(outputs: &mut BTreeSet<Path>, drafts: &[Draft]) -> Result<(), GraphFault>
+    ensures outputs { OnOk result
+        (GrowsBy by_names (IsDrafted drafts.now) outputs.old outputs.new) }
     ensures memory { IfErr result (λ fault. fault ≡ GraphFault.Memory) }
 {
     for draft in drafts {
-        add_paths(names, dir, draft.outputs.as_slice())?;
+        add_all(outputs, draft.outputs.as_slice())?;
     }
     Ok(())
 }
 
-/// Adds the names of those paths that stand in a folder.
-fn add_paths(names: &mut BTreeSet<Text>, dir: &Path, paths: &[Path]) -> Result<(), GraphFault>
-    ensures names { OnOk result (GrowsBy by_bytes (IsIn paths.now dir.now) names.old names.new) }
+/// Adds paths.
+fn add_all(outputs: &mut BTreeSet<Path>, paths: &[Path]) -> Result<(), GraphFault>
+    ensures outputs { OnOk result (GrowsBy by_names (Contains paths.now) outputs.old outputs.new) }
     ensures memory { IfErr result (λ fault. fault ≡ GraphFault.Memory) }
 {
     for path in paths {
-        add_path(names, dir, path)?;
+        outputs.insert(path.clone()?)?;
     }
-    Ok(())
-}
-
-/// Adds the name of a path, if it stands in a folder.
-fn add_path(names: &mut BTreeSet<Text>, dir: &Path, path: &Path) -> Result<(), GraphFault>
-    ensures names { OnOk result (GrowsBy by_bytes (λ name. path.now ≡ dir.now ++ name ∷ [])
-        names.old names.new) }
-    ensures memory { IfErr result (λ fault. fault ≡ GraphFault.Memory) }
-{
-    let Some((name, folder)) = path.names().split_last() else {
-        return Ok(());
-    };
-    if folder != dir.names() {
-        return Ok(());
-    }
-    names.insert(name.clone()?)?;
     Ok(())
 }

@@ -1,20 +1,20 @@
 //! The names of the files in a folder.
-ghost use Rattle.std.specs.Prelude.{◌≡◌, ◌↔◌, ℕ, List, Contains, IfOk, IfErr, OnOk};
+ghost use Rattle.std.specs.Prelude.{◌≡◌, ◌↔◌, ◌++◌, ◌∷◌, [], ℕ, List, Contains, IfOk, IfErr, OnOk};
 ghost use Rattle.std.specs.BTreeSet.{IsOrdered};
 ghost use Rattle.tup_path.specs.Order.{by_bytes};
 ghost use Rattle.tup_graph.specs.Answers.{IsFileFor};
 ghost use Rattle.tup_graph.specs.Graph.{source};
-ghost use Rattle.tup_scan_diff.specs.Names.{IsMadeIn};
+ghost use Rattle.tup_scan_diff.specs.Names.{IsDraftedIn, IsIn, IsOutputIn};
 ghost use Rattle.tup_scan_diff.specs.Present.{IsWhole, graph_of};
 ghost use Rattle.tup_scan_diff.specs.Sets.{Has, GrowsBy};
 ghost use Rattle.tup_scan_diff.specs.Told.{AreNames};
 
-use crate::made::add_drafted;
 use crate::present::Present;
 use std::alloc::Global;
 use std::collections::BTreeSet;
 use tup_graph::GraphFault;
 use tup_path::{Path, Text, Texts};
+use tup_rule::Draft;
 
 impl Present<'_> {
     /// The names of the files in a folder, in byte order, as the reading of a folder is told them.
@@ -47,24 +47,28 @@ impl Present<'_> {
     {
         let mut names = BTreeSet::new(alloc);
         add_names(&mut names, self.index.names.of(dir))?;
-        if dir == reader {
-            return Ok(names);
-        }
-        self.add_outputs(&mut names, dir)?;
+        self.add_outputs(alloc, &mut names, reader, dir)?;
         Ok(names)
     }
 
-    /// Adds the names of the outputs of a folder's reading, where the folder has a Tupfile.
-    fn add_outputs(&self, names: &mut BTreeSet<Text>, dir: &Path) -> Result<(), GraphFault>
+    /// Adds the names of those outputs of the reading of a folder's home that stand in the folder, where the home is another
+    /// folder than the one that is read.
+    fn add_outputs(
+        &self,
+        alloc: Global,
+        names: &mut BTreeSet<Text>,
+        reader: &Path,
+        dir: &Path,
+    ) -> Result<(), GraphFault>
         requires present { IsWhole self.now }
-        ensures names { OnOk result
-            (GrowsBy by_bytes (IsMadeIn self.now dir.now) names.old names.new) }
+        ensures names { OnOk result (GrowsBy by_bytes
+            (IsOutputIn self.now reader.now dir.now) names.old names.new) }
         ensures memory { IfErr result (λ fault. fault ≡ GraphFault.Memory) }
     {
-        if !self.index.tupfiles.contains(dir) {
+        let Some(home) = self.other_home(alloc, reader, dir.clone()?)? else {
             return Ok(());
-        }
-        match self.nodes.reading(dir) {
+        };
+        match self.nodes.reading(&home) {
             Some(reading) => add_drafted(names, dir, reading.drafts.as_slice()),
             None => Ok(()),
         }
@@ -91,5 +95,44 @@ fn add_names(names: &mut BTreeSet<Text>, more: &[Text]) -> Result<(), GraphFault
     for name in more {
         names.insert(name.clone()?)?;
     }
+    Ok(())
+}
+
+/// Adds the names of those outputs of drafts that stand in a folder.
+fn add_drafted(names: &mut BTreeSet<Text>, dir: &Path, drafts: &[Draft]) -> Result<(), GraphFault>
+    ensures names { OnOk result
+        (GrowsBy by_bytes (IsDraftedIn drafts.now dir.now) names.old names.new) }
+    ensures memory { IfErr result (λ fault. fault ≡ GraphFault.Memory) }
+{
+    for draft in drafts {
+        add_paths(names, dir, draft.outputs.as_slice())?;
+    }
+    Ok(())
+}
+
+/// Adds the names of those paths that stand in a folder.
+fn add_paths(names: &mut BTreeSet<Text>, dir: &Path, paths: &[Path]) -> Result<(), GraphFault>
+    ensures names { OnOk result (GrowsBy by_bytes (IsIn paths.now dir.now) names.old names.new) }
+    ensures memory { IfErr result (λ fault. fault ≡ GraphFault.Memory) }
+{
+    for path in paths {
+        add_path(names, dir, path)?;
+    }
+    Ok(())
+}
+
+/// Adds the name of a path, if it stands in a folder.
+fn add_path(names: &mut BTreeSet<Text>, dir: &Path, path: &Path) -> Result<(), GraphFault>
+    ensures names { OnOk result (GrowsBy by_bytes (λ name. path.now ≡ dir.now ++ name ∷ [])
+        names.old names.new) }
+    ensures memory { IfErr result (λ fault. fault ≡ GraphFault.Memory) }
+{
+    let Some((name, folder)) = path.names().split_last() else {
+        return Ok(());
+    };
+    if folder != dir.names() {
+        return Ok(());
+    }
+    names.insert(name.clone()?)?;
     Ok(())
 }

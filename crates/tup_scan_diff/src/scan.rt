@@ -22,8 +22,8 @@ use tup_scan::Seen;
 /// Of each key there is one edit, and none that changes nothing. It looks at the files, at the readings, at the rules that
 /// are flagged or whose records may not tell what was seen before, and at those that use a path which has another stamp
 /// now, or ask for a folder that came or went: a rule that is none of these isn't looked at. Folders are compared where a
-/// file came or went, and not else. Where a reading has many outputs, their names are put into a set once, so that what another
-/// reading asked about a path there takes one lookup.
+/// file came or went, and not else. Where a reading has many outputs, they are put into a set once, so that what another reading
+/// asked about one of them takes one lookup.
 ///
 /// From the rules with which the scan begins it takes the steps of `above`; after a refusal it has taken no more.
 pub fn note_scan<L: Ledger>(

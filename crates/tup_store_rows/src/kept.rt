@@ -22,7 +22,7 @@ use tup_commit::uncounted::{note_scan, swap_rules};
 use tup_graph::GraphFault;
 use tup_ledger::{Begun, begin as begin_project, give_up, open, own, owned_paths};
 use tup_path::{Path, Paths};
-use tup_refresh::refresh;
+use tup_refresh::{is_idle, refresh};
 use tup_rows::{Answers, RowFault, Words, set};
 use tup_rule::Question;
 use tup_scan::Seen;
@@ -50,7 +50,7 @@ impl Answers for KeptGraphs {
             "failing" => self.set_fails(alloc, said),
             "init" => self.init(alloc, said),
             "open" => self.open(alloc, said),
-            "readers" => self.asked(alloc, call, said),
+            "readers" | "idle" => self.asked(alloc, call, said),
             "content" | "config" | "names" | "kind" => self.asked(alloc, call, said),
             "refresh" => self.refresh(alloc, said),
             _ => self.transaction(alloc, call, said),
@@ -245,8 +245,11 @@ fn asked_in(alloc: Global, call: &str, said: &Words, site: &mut MemSite) -> Word
     }
 }
 
-/// The folders whose readings asked a question, or the rules whose records ask a path.
+/// The folders whose readings asked a question, or the rules whose records ask a path; or whether a refresh plainly brings nothing.
 fn askers(alloc: Global, call: &str, said: &Words, graph: &Graph) -> Words {
+    if call == "idle" {
+        return Words::yes_or_no(alloc, is_idle(alloc, graph.nodes(), &None));
+    }
     match question(alloc, call, said) {
         Some(question) => listed(alloc, graph.asked_by(alloc, &question)),
         None => listed(alloc, graph.readers_of(alloc, &said.path_at(alloc, 0))),

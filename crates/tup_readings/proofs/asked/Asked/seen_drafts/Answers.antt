@@ -1,41 +1,41 @@
-use Rattle.std.proofs.Common.{◌≡◌, true, false, not, ◌&&◌, cond, List, [], Option, Some, None, sym, ap, ◌∙◌}
-use Rattle.std.specs.Prelude.{is_none}
-use Rattle.std.specs.FinMap as finite
-use Rattle.tup_path.specs.Order.{same_path}
-use Rattle.tup_rule.specs.declared.draft.Draft.{Draft}
-use Rattle.tup_rule.specs.declared.question.Reading.{Reading}
-use Rattle.tup_readings.specs.Answers.{drafts_of}
-use Rattle.tup_readings.specs.Sources.{has_tupfile}
-use Rattle.tup_readings.proofs.Waits.{unread_waits}
+use Rattle.std.proofs.Common.{◌≡◌, Option, Some, None, Bor, subst, sym, ◌∙◌}
+use Rattle.std.specs.Option.{option_copied}
+use Rattle.std.proofs.lemmas.Result.{MatchResult-weaker}
+use Rattle.tup_path.specs.Name.{Names}
+use Rattle.tup_readings.specs.Asked.{IsWait}
+use Rattle.tup_readings.specs.Sources.{home}
+use Rattle.tup_readings.proofs.Told.{seen_is, waits_for_home}
 use Rattle.tup_readings.proofs.asked.Asked.seen_drafts.Goals as goal
-
-pub returns-then-eq-clause-seen : goal.returns-then-eq-clause-seen
-returns-then-eq-clause-seen c =
-    let self = c.args.self.now in
-    let own : same_path self.reader.now c.args.dir.now ≡ true = sym c.eq.ensures ∙ c.if-eq.true in
-    sym (ap (λ b. cond b [] (drafts_of self.readings.now c.args.dir.now)) own)
-
-pub returns-then-eq-clause-ready : goal.returns-then-eq-clause-ready
-returns-then-eq-clause-ready c =
-    let self = c.args.self.now in
-    let dir = c.args.dir.now in
-    let own : same_path self.reader.now dir ≡ true = sym c.eq.ensures ∙ c.if-eq.true in
-    ap (λ b. cond (not b && has_tupfile self.sources.now dir && is_none (finite.get self.readings.now dir)) (Some dir) None) own
 
 pub returns-in-Some-clause-seen : goal.returns-in-Some-clause-seen
 returns-in-Some-clause-seen c =
     let self = c.args.self.now in
-    let dir = c.args.dir.now in
-    let own : same_path self.reader.now dir ≡ false = sym c.eq.ensures ∙ c.if-eq.false in
-    c.as_slice.ensures
-    ∙ ap (λ (found : Option Reading). elim found as (λ _. List Draft) [ Some reading ↦ reading.drafts | None ↦ [] ]) c.in-Some.ensures
-    ∙ sym (ap (λ b. cond b [] (drafts_of self.readings.now dir)) own)
+    let is = subst (λ (found : Option (Bor Names)). option_copied found ≡ home self.sources.now c.args.dir.now) c.in-Some.is c.in_ok-home.ensures in
+    MatchResult-weaker c.other_drafts.result c.other_drafts.ensures.seen
+    (λ drafts e. e ∙ seen_is self.sources.now self.readings.now self.reader.now c.args.dir.now (Some c.in-Some.home.now) is) (λ stop no. tt)
 
-pub returns-in_ok-clone-in-None-clause-waits : goal.returns-in_ok-clone-in-None-clause-waits
-returns-in_ok-clone-in-None-clause-waits c =
+pub returns-in-Some-clause-ready : goal.returns-in-Some-clause-ready
+returns-in-Some-clause-ready c =
     let self = c.args.self.now in
-    let dir = c.args.dir.now in
-    let own : same_path self.reader.now dir ≡ false = sym c.eq.ensures ∙ c.if-eq.false in
-    unread_waits self.sources.now self.readings.now self.reader.now dir
-    (record { apart = own; has = sym c.has_tupfile.ensures ∙ c.if-has_tupfile.true; none = sym c.in-None.ensures })
-    ∙ ap (λ d. Some d) (sym c.in_ok-clone-in-None.ensures.cases)
+    let is = subst (λ (found : Option (Bor Names)). option_copied found ≡ home self.sources.now c.args.dir.now) c.in-Some.is c.in_ok-home.ensures in
+    MatchResult-weaker c.other_drafts.result c.other_drafts.ensures.ready
+    (λ drafts e. sym (waits_for_home self.sources.now self.readings.now self.reader.now c.args.dir.now (Some c.in-Some.home.now) is) ∙ e) (λ stop no. tt)
+
+pub returns-in-Some-clause-waits : goal.returns-in-Some-clause-waits
+returns-in-Some-clause-waits c =
+    let self = c.args.self.now in
+    let is = subst (λ (found : Option (Bor Names)). option_copied found ≡ home self.sources.now c.args.dir.now) c.in-Some.is c.in_ok-home.ensures in
+    let waits = waits_for_home self.sources.now self.readings.now self.reader.now c.args.dir.now (Some c.in-Some.home.now) is in
+    MatchResult-weaker c.other_drafts.result c.other_drafts.ensures.waits (λ drafts yes. tt) (λ stop h. subst (λ (next : Option Names). IsWait next stop) waits h)
+
+pub returns-in-None-clause-seen : goal.returns-in-None-clause-seen
+returns-in-None-clause-seen c =
+    let self = c.args.self.now in
+    let is = subst (λ (found : Option (Bor Names)). option_copied found ≡ home self.sources.now c.args.dir.now) c.in-None.is c.in_ok-home.ensures in
+    seen_is self.sources.now self.readings.now self.reader.now c.args.dir.now None is
+
+pub returns-in-None-clause-ready : goal.returns-in-None-clause-ready
+returns-in-None-clause-ready c =
+    let self = c.args.self.now in
+    let is = subst (λ (found : Option (Bor Names)). option_copied found ≡ home self.sources.now c.args.dir.now) c.in-None.is c.in_ok-home.ensures in
+    sym (waits_for_home self.sources.now self.readings.now self.reader.now c.args.dir.now None is)

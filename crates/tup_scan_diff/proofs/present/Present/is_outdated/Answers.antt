@@ -5,6 +5,9 @@ use Rattle.tup_scan_diff.specs.Told.{AreToldSo, IsToldOtherwise, Tells}
 use Rattle.tup_scan_diff.proofs.Staled.{outdated_decides}
 use Rattle.tup_scan_diff.proofs.present.Present.is_outdated.Goals as goal
 
+pub all_stand-requires-clause-tupfile : goal.all_stand-requires-clause-tupfile
+all_stand-requires-clause-tupfile c = sym c.contains.ensures ∙ c.if-not-contains.false
+
 pub returns-clause-outdated : goal.returns-clause-outdated
 returns-clause-outdated c = λ config is.
     outdated_decides config c.args.self.now c.args.dir.now c.args.reading.now c.in_ok-all_stand.field-0 (sym c.contains.ensures ∙ c.if-not-contains.false)
