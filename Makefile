@@ -12,7 +12,7 @@ JOBS ?= $(shell nproc)
 TEXTS := crates.txt HANDLES $(shell find crates -name out -prune -o '(' -name '*.rt' -o -name '*.antt' ')' -print)
 VERSION = $(shell sed -n 's/^const VERSION: &str = "\(.*\)";/\1/p' crates/tup/src/main.rt)
 
-.PHONY: help look build runners demo check above promises definitions reach books refusals rows test edits seats try examples shell lot containers stamps real killed model figures figures-crew fmt times picture beside dist tag install uninstall clean
+.PHONY: help look build runners demo check above promises definitions reach books refusals rows test edits seats try examples shell lot containers stamps real killed power model figures figures-crew fmt times picture beside dist tag install uninstall clean
 
 help: ## prints this
 	@awk -F':[^#]*## ' '/^[a-z-]+:[^#]*## / {printf "make %-15s %s\n", $$1, $$2}' Makefile
@@ -114,6 +114,18 @@ killed: build ## fails and kills each system call of an update in turn, stops up
 	python3 -B tests/faults/stops.py killed $(TUP) $(SEED) $(STOPS)
 	python3 -B tests/faults/stops.py full $(TUP) $(SEED) $(STOPS)
 	sh tests/faults/killed.sh $(TUP)
+
+# CUTS=2000 plays more cuts of power.
+CUTS ?= 200
+power: build ## cuts the power by lot in updates that sync once, and does to these what `make killed` does; CUTS=2000 (half an hour)
+	sh tests/faults/once.sh $(TUP)
+	python3 -B tests/faults/power.py planted $(TUP) $(SEED)
+	python3 -B tests/faults/power.py cut $(TUP) $(SEED) $(CUTS)
+	python3 -B tests/faults/power.py again $(TUP) $(SEED) $(CUTS)
+	python3 -B tests/faults/power.py user $(TUP) $(SEED) $(CUTS)
+	ONCE=1 python3 -B tests/faults/stops.py killed $(TUP) $(SEED) $(STOPS)
+	ONCE=1 python3 -B tests/faults/stops.py full $(TUP) $(SEED) $(STOPS)
+	ONCE=1 sh tests/faults/killed.sh $(TUP)
 
 # SEED=2 draws others, EDITS=1000 so many edits.
 EDITS ?= 300

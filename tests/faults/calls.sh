@@ -8,7 +8,9 @@
 # four make a file of it, six make that and its folder durable, and eight commit, twice, what begins and what ended. Each command
 # another: 32, as the output is listed and read for the rules too, and read in place of being made. Each folder more above a file
 # that is made takes three to be made durable; it is looked at once. Where nothing is to be done no byte is written, and three
-# syncs are made: of the store, of its folder, of the one above. The updates have four runners; their calls of futex and
+# syncs are made: of the store, of its folder, of the one above. Where a project syncs once an update, each file that is made is
+# synced once, and each folder above one; seventeen syncs are made beside, since an epoch whose commits weren't known as such would
+# end at each of them. The updates have four runners; their calls of futex and
 # sched_yield, by which they wait for each other, are told beside and in no sum.
 # Word: the program. It is no part of the gate.
 set -u
@@ -62,6 +64,19 @@ END
 
 count . 0
 count two/down 6
+
+# Once an update: as many syncs as files and folders, and seventeen.
+rm -rf "$work/project" && mkdir -p "$work/project/two/down" && cd "$work/project/two/down" || exit 1
+make_files
+cd "$work/project" || exit 1
+"$tup" init --sync-once > /dev/null || exit 1
+update "the first update, synced once" 27600 900
+[ "$syncs" -le 1020 ] || exit 1
+update "nothing to do, synced once" 10600 900
+[ "$bytes $syncs" = '0 3' ] || exit 1
+sed -i 's/cp \([^ ]*\)/cat \1 >/' two/down/Tupfile
+update "each command is another, synced once" 32600 900
+[ "$syncs" -le 1020 ] || exit 1
 
 # One rule alone: its output is new, then its source has changed, then nothing is to be done.
 rm -rf "$work/project" && mkdir "$work/project" && cd "$work/project" || exit 1

@@ -5,7 +5,8 @@
 # looked at: which calls of the system make a file durable no clause says. Then the store is torn in the range of each of its
 # writes, in each way that a cut of power may leave it: by a change of the file, in place of the cut. So are the outputs, at each
 # sync from the moment on at which one came or went until that is durable. Words: the program, and the projects to try (none:
-# all). It ends with 1 where something else came, and says so. It takes half an hour, and is no part of the gate.
+# all). With ONCE=1 the projects sync once an update: the order of their syncs is another one, and what a cut of power leaves of
+# them is laid by power.py. It ends with 1 where something else came, and says so. It takes half an hour, and is no part of the gate.
 set -u
 . "$(dirname "$0")/../lib.sh"
 tup=$(realpath "$1")
@@ -18,6 +19,8 @@ work=$(mktemp -d)
 trap 'cd /; rm -rf "$work"' EXIT
 trap 'exit 1' INT TERM
 calls=%file,%desc
+once=${ONCE:+--sync-once}
+own=$([ -z "$once" ] && echo db || printf 'db\noptions')
 failures=0
 all=0
 
@@ -134,7 +137,7 @@ made_all() {
 unchanged() {
     [ "$(files)" = "$wanted_files" ] || wrong "a comparison changed a file"
     cmp -s .tup/db "$work/project/.tup/db" || wrong "a comparison changed the store"
-    [ "$(ls .tup)" = db ] || wrong "a comparison left more than the store in .tup: $(ls .tup | tr '\n' ' ')"
+    [ "$(ls .tup)" = "$own" ] || wrong "a comparison left more than the store in .tup: $(ls .tup | tr '\n' ' ')"
 }
 
 # A project that may have begun begins, or says that it has.
@@ -181,7 +184,7 @@ go_on() {
     esac
     [ "$(sources)" = "$wanted_sources" ] || wrong "a source is lost in the next update"
     [ "$(files)" = "$wanted_files" ] || wrong "the next update's files aren't those of a clean build"
-    [ "$(ls .tup)" = db ] || wrong "more than the store is left in .tup: $(ls .tup | tr '\n' ' ')"
+    [ "$(ls .tup)" = "$own" ] || wrong "more than the store is left in .tup: $(ls .tup | tr '\n' ' ')"
 }
 
 # The bytes that a cut of power may leave in the range of a write. Words: which, their number, and a file of those written.
@@ -276,17 +279,23 @@ writes_of_store() {
 # What a trace of an update shows of its syncs. Before a file comes or goes the store is durable, with its folder and the one
 # above. Before the store is written, or gets its name, each file that came and all folders above a name that came or went are
 # synced, and so they are in the end. A store that is made is synced before it gets its name, and its folder behind that; each
-# write of a store is synced before the next one. Word: how often the store is written, or gets its name: once where it is made,
+# write of a store is synced before the next one. Where a project syncs once an update, that holds up to where the epoch gets its
+# name, and again when its file goes: between them files only come, and nothing has to be synced. Word: how often the store is written, or gets its name: once where it is made,
 # and twice for each commit.
 unsynced() {
-    awk -v wanted="$1" '
+    awk -v wanted="$1" -v once="$once" '
         function above(path) { while (sub(/\/[^\/]*$/, "", path)) waiting[path] }
+        function durable(when,   path) {
+            for (path in waiting) print path " isn\047t durable " when
+            if (dirty["./.tup/db"]) print "the store isn\047t durable " when
+            if (!("./.tup" in synced) || !("." in synced)) print "the folders of the store aren\047t synced " when
+        }
         function file_changes(path) {
-            if (dirty["./.tup/db"] || !("./.tup" in synced) || !("." in synced)) print path " comes or goes before the store is durable"
+            if (!open && (dirty["./.tup/db"] || !("./.tup" in synced) || !("." in synced))) print path " comes or goes before the store is durable"
             above(path)
         }
         function store_changes(   path) {
-            for (path in waiting) print path " isn\047t durable before the store says so"
+            if (!open) for (path in waiting) print path " isn\047t durable before the store says so"
             stores++
         }
         function place(   path) {
@@ -298,12 +307,24 @@ unsynced() {
         }
         / = -1 / { next }
         { split($0, part, "\"") }
-        /^openat\(.*"\.\/[^.].*O_CREAT/ { file_changes(part[2]); waiting[part[2]] }
-        /^unlink\("\.\/[^.]/ { file_changes(part[2]); delete waiting[part[2]] }
+        /^openat\(.*"\.\/[^.].*O_CREAT/ {
+            if (once && !open) print part[2] " comes where no epoch is open"
+            if (open && !("./.tup" in synced)) print part[2] " comes before the epoch is durable"
+            file_changes(part[2])
+            waiting[part[2]]
+            delete gone[part[2]]
+        }
+        /^unlink\("\.\/[^.]/ {
+            if (open) gone[part[2]]
+            file_changes(part[2])
+            delete waiting[part[2]]
+        }
         /^rmdir\(/ { above(part[2]); delete waiting[part[2]] }
         /^f(data)?sync\(/ { delete waiting[place()]; delete dirty[place()]; synced[place()] }
+        /^pwrite64\(/ && place() ~ /^\.\/\.tup\/epoch/ { dirty["head"] = dirty["head"] || place() ~ /new$/; next }
+        /^f(data)?sync\(/ && place() == "./.tup/epoch.new" { delete dirty["head"] }
         /^pwrite64\(/ {
-            if (dirty[place()]) print "the store is written twice without a sync"
+            if (dirty[place()] && !open) print "the store is written twice without a sync"
             dirty[place()] = 1
             if (place() == "./.tup/db") store_changes()
         }
@@ -313,12 +334,24 @@ unsynced() {
             delete synced["."]
             store_changes()
         }
-        /^rename/ && !/^rename\("\.\/\.tup\/db\.new", / { print "a file is renamed" }
+        /^rename\("\.\/\.tup\/epoch\.new", / {
+            if (dirty["head"]) print "the epoch isn\047t durable before it gets its name"
+            durable("before the epoch gets its name")
+            delete synced["./.tup"]
+            open = 1
+        }
+        /^unlink\("\.\/\.tup\/epoch"/ {
+            if (!open) print "an epoch goes that wasn\047t open"
+            for (path in gone) print path " went in the epoch and didn\047t come again"
+            durable("before the epoch goes")
+            delete synced["./.tup"]
+            open = 0
+        }
+        /^rename/ && !/^rename\("\.\/\.tup\/(db|epoch)\.new", / { print "a file is renamed" }
         END {
             if (stores != wanted) print "the store was written, or got its name, " stores + 0 " times, not " wanted
-            for (path in waiting) print path " isn\047t durable in the end"
-            if (dirty["./.tup/db"]) print "the store isn\047t durable in the end"
-            if (!("./.tup" in synced) || !("." in synced)) print "the folders of the store aren\047t synced"
+            if (open) print "the epoch is open in the end"
+            durable("in the end")
         }' "$work/trace"
 }
 
@@ -340,10 +373,10 @@ commits_of() {
 try() {
     rm -rf "$work/project" "$work/clean" && mkdir "$work/project" "$work/clean" && cd "$work/project" || exit 1
     case $1 in
-        beginning) order=init stores=1 ;;
-        comparison) order=verify stores=0 && "$tup" init > /dev/null ;;
-        listing) order=todo stores=$(($(commits_of "$1") * 2)) && "$tup" init > /dev/null ;;
-        *) order=upd stores=$(($(commits_of "$1") * 2)) && "$tup" init > /dev/null ;;
+        beginning) order=init stores=1 && [ -z "$once" ] || return 0 ;;
+        comparison) order=verify stores=0 && "$tup" init $once > /dev/null ;;
+        listing) order=todo stores=$(($(commits_of "$1") * 2)) && "$tup" init $once > /dev/null ;;
+        *) order=upd stores=$(($(commits_of "$1") * 2)) && "$tup" init $once > /dev/null ;;
     esac
     # One command after another: else the calls of the threads are counted apart.
     words=$order
@@ -374,8 +407,10 @@ try() {
     done < "$work/list"
     writes_of_store > "$work/writes"
     torn=0
+    [ -z "$once" ] || : > "$work/writes"
     while read -r number length at sync; do tear "$1" "$number" "$length" "$at" "$sync"; done < "$work/writes"
     not_durable > "$work/cuts"
+    [ -z "$once" ] || : > "$work/cuts"
     cuts=0
     while read -r number file; do cut "$1" "$number" "$file"; done < "$work/cuts"
     [ $order != init ] || half_made
@@ -388,7 +423,7 @@ try() {
 behind_a_bad_rule() {
     rm -rf "$work/now" && mkdir -p "$work/now/sub" && cd "$work/now" || exit 1
     what="behind a bad rule"
-    "$tup" init > /dev/null
+    "$tup" init $once > /dev/null
     printf 'head\n' > sub/head
     printf '%s\n' ': head |> cp head top |> top' ': head |> fail 3 |> page' > sub/Tupfile
     strace -y -o "$work/trace" -e trace="$calls" "$tup" -j 1 > /dev/null
@@ -404,7 +439,7 @@ behind_a_bad_rule() {
 by_several_runners() {
     rm -rf "$work/project" "$work/clean" && mkdir "$work/project" "$work/clean" && cd "$work/project" || exit 1
     what="several runners"
-    "$tup" init > /dev/null
+    "$tup" init $once > /dev/null
     printf 'head\n' > head
     awk 'BEGIN { for (i = 1; i <= 8; i++) { print ": head |> cp head top" i " |> top" i; print ": top" i " |> cp top" i " page" i " |> page" i } }' > Tupfile
     wanted_sources=$(sources_of_several)

@@ -3,7 +3,7 @@
     stops.py killed PROGRAM [SEED [COUNT]]   so many updates (none: 100) are killed, or fail, at a system call drawn by lot
     stops.py full PROGRAM [SEED [COUNT]]     so many updates (none: 100) find a file system that is almost full
 
-A project has up to 40 rules in four folders. Between two updates that are done somebody edits sources, rules and outputs. Each
+With ONCE=1 the projects sync once an update. A project has up to 40 rules in four folders. Between two updates that are done somebody edits sources, rules and outputs. Each
 update is tried up to three times, by 1 to 4 runners, before it is left in peace. Then
 
 - no source has changed, whatever stopped the updates,
@@ -180,7 +180,7 @@ class History:
         self.program, self.lot, self.stopper = program, lot, stopper
         self.project, self.clean = Project(lot, os.path.join(top, 'p')), tempfile.mkdtemp()
         self.wrong, self.stops = [], 0
-        self.call('init')
+        self.call('init', *(['--sync-once'] if os.environ.get('ONCE') else []))
 
     def call(self, *words, before=()):
         return subprocess.run([*before, self.program, *words], cwd=self.project.top, stdout=subprocess.PIPE, stderr=subprocess.PIPE,

@@ -7,7 +7,7 @@ use Rattle.tup.specs.declared.options.Voice.{Voice}
 use Rattle.tup.specs.declared.options.Voice.TheVariants.{Quiet, Verbose}
 use Rattle.tup.specs.declared.options.Options.{Options}
 use Rattle.tup.specs.declared.options.Fault.{Fault}
-use Rattle.tup.specs.declared.options.Fault.TheVariants.{Unknown, Twice, NoJobs, Both}
+use Rattle.tup.specs.declared.options.Fault.TheVariants.{Unknown, Twice, NoJobs, Both, BothSyncs}
 
 -- the program that a word names
 abbrev pub with_program : List ℕ → Options → Options
@@ -17,11 +17,15 @@ with_program word options = record options { program = Some word; awaits_program
 abbrev pub with_proc : List ℕ → Options → Result Options Fault
 with_proc word options = if is_some options.program then Err (Twice word) else Ok (record options { awaits_program = true })
 
--- the option by which nothing is made durable, which stands once
-abbrev pub with_no_sync : List ℕ → Options → Syncs → Result Options Fault
-with_no_sync word options Done = Ok (record options { syncs = Skipped })
-with_no_sync word options Skipped = Err (Twice word)
-with_no_sync word options Once = Err (Twice word)
+-- the option that says when what is written is made durable: of the two one stands, once
+abbrev pub with_syncs : Syncs → List ℕ → Options → Syncs → Result Options Fault
+with_syncs syncs word options Done = Ok (record options { syncs = syncs })
+with_syncs Skipped word options Skipped = Err (Twice word)
+with_syncs Once word options Once = Err (Twice word)
+with_syncs Done word options Skipped = Err BothSyncs
+with_syncs Once word options Skipped = Err BothSyncs
+with_syncs Done word options Once = Err BothSyncs
+with_syncs Skipped word options Once = Err BothSyncs
 
 -- the option by which each file is read, which stands once
 abbrev pub with_digest : List ℕ → Options → Result Options Fault
@@ -53,18 +57,23 @@ abbrev pub with_joined : List ℕ → Option ℕ → Options → Result Options 
 with_joined word None options = Err (Unknown word)
 with_joined word (Some number) options = if is_some options.jobs then Err (Twice word) else Ok (record options { jobs = Some number })
 
--- options behind one word more; what can't stand there is refused
-abbrev pub added : List ℕ → Options → Result Options Fault
-added word options = if options.awaits_program then Ok (with_program word options)
-    else if options.awaits_jobs then with_jobs (jobs_in word) options
-    else if bytes_eq word (codes "--proc") then with_proc word options
-    else if bytes_eq word (codes "--no-sync") then with_no_sync word options options.syncs
+-- options behind a word that has to be an option; what can't stand there is refused
+abbrev pub with_option : List ℕ → Options → Result Options Fault
+with_option word options = if bytes_eq word (codes "--proc") then with_proc word options
+    else if bytes_eq word (codes "--no-sync") then with_syncs Skipped word options options.syncs
+    else if bytes_eq word (codes "--sync-once") then with_syncs Once word options options.syncs
     else if bytes_eq word (codes "--digest") then with_digest word options
     else if bytes_eq word (codes "-k") then with_keep_going word options
     else if bytes_eq word (codes "--quiet") then with_voice Quiet word options options.voice
     else if bytes_eq word (codes "--verbose") then with_voice Verbose word options options.voice
     else if bytes_eq word (codes "-j") then before_jobs word options
     else with_joined word (joined_jobs word) options
+
+-- options behind one word more: what has to follow, or else an option
+abbrev pub added : List ℕ → Options → Result Options Fault
+added word options = if options.awaits_program then Ok (with_program word options)
+    else if options.awaits_jobs then with_jobs (jobs_in word) options
+    else with_option word options
 
 -- the first of two that says something
 abbrev pub first_said : {T : Type 0} → Option T → Option T → Option T

@@ -15,7 +15,7 @@ use std::rt::Clock;
 use std::sync::Wait;
 use std::thread::Threads;
 use std::time::Duration;
-use tup_fs::{FsSite, QUIET_SECONDS, Syncs};
+use tup_fs::{FsSite, OnceSite, QUIET_SECONDS, Syncs};
 use tup_path::Text;
 use tup_proc_runner::{ProcFault, ProcRunner};
 use tup_progress::{Manner, Progress, Started};
@@ -71,7 +71,16 @@ fn run<W: Threads + Wait + Sync, R: Runner + Send>(
     };
     let started = Started::new();
     match crew_of(rt, alloc, call.manner, &started, seats, runners) {
-        Ok(crew) => run_crew(rt, crews, alloc, call, site, crew, &started, back),
+        Ok(crew) => run_crew(
+            rt,
+            crews,
+            alloc,
+            call,
+            OnceSite::new(site),
+            crew,
+            &started,
+            back,
+        ),
         Err(_) => (no_memory(rt), back),
     }
 }
@@ -89,7 +98,7 @@ fn run_crew<W: Threads + Wait + Sync, R: Runner + Send>(
     crews: &W,
     alloc: Global,
     call: &Call,
-    site: FsSite<HostRuntime>,
+    site: OnceSite<HostRuntime>,
     crew: Vec<Progress<R, ErrorScreen>>,
     started: &Started,
     mut back: Vec<R>,
@@ -98,10 +107,11 @@ fn run_crew<W: Threads + Wait + Sync, R: Runner + Send>(
 {
     let began = since_1970(&rt);
     let lines = lines_of(rt, call);
-    let mut output = Output::new(&rt, call.manner == Manner::Over, lines);
+    let mut output = output_of(&rt, alloc, call, lines);
     let Ok(mut tellers) = log_of(rt, alloc, call) else {
         return (no_memory(rt), back);
     };
+    let threads = crew.len();
     let ran = tup(
         crews,
         alloc,
@@ -113,6 +123,8 @@ fn run_crew<W: Threads + Wait + Sync, R: Runner + Send>(
         &mut output,
     );
     let (status, mut site, crew) = (ran.status, ran.site, ran.crew);
+    let is_lost = site.finish(crews, threads).is_err();
+    let status = ended(rt, status, is_lost, &mut output);
     if lines == Lines::Short {
         tell_counts(rt, &status, output.counts, began);
     }
@@ -136,8 +148,42 @@ fn run_crew<W: Threads + Wait + Sync, R: Runner + Send>(
     (status, back)
 }
 
+/// Standard output, whose lines wait until all is durable where the project syncs once.
+fn output_of<'a>(
+    rt: &'a HostRuntime,
+    alloc: Global,
+    call: &Call,
+    lines: Lines,
+) -> Output<'a, HostRuntime>
+    ensures { result.faults ≡ 0 }
+{
+    let output = Output::new(rt, call.manner == Manner::Over, lines);
+    match call.syncs {
+        Syncs::Once => output.waiting(alloc),
+        _ => output,
+    }
+}
+
+/// Prints what waited until all was durable; gives how the call ended. Where that failed, it is as if the site had failed before.
+fn ended<P: Print + Eprint>(
+    rt: HostRuntime,
+    status: Status,
+    is_lost: bool,
+    output: &mut Output<'_, P>,
+) -> Status {
+    let is_printed = output.print(is_lost).is_ok();
+    if is_lost {
+        told(&rt, Status::SiteFault);
+        return Status::SiteFault;
+    }
+    match status {
+        Status::Done { .. } if !is_printed => Status::SinkFault,
+        status => status,
+    }
+}
+
 /// Tells of the first place where no file was found because something else stands there.
-fn tell_strange(rt: HostRuntime, site: &FsSite<HostRuntime>) {
+fn tell_strange(rt: HostRuntime, site: &OnceSite<HostRuntime>) {
     if let Some(place) = site.strange() {
         // Words that can't be printed change nothing.
         drop(eprintln!(rt;

@@ -47,6 +47,8 @@ tup makes the files that the Tupfiles of a project ask for. It may be called in 
                   begin one in which each command is run through the program P: --proc tup_sh runs shell commands
   tup init --no-sync
                   begin one that is faster: its files are safe if tup is killed, but not if the power is cut
+  tup init --sync-once
+                  begin one that is faster and safe if the power is cut: all is made durable at the end of an update
   tup, tup upd    update: remove the files of vanished rules, run the rules that aren't up to date, and no others
   tup todo        list what an update would remove and run, and change no file
   tup verify      compare the files with a clean build, and touch none

@@ -1,6 +1,6 @@
 //! The options of a project: words that hold for each update in it.
 ghost use Rattle.std.specs.Prelude.{◌≡◌, ◌⊎◌, Ok, Err, IfOk, IfErr, false};
-ghost use Rattle.tup.specs.Options.{added, behind, with_jobs, with_joined, with_voice};
+ghost use Rattle.tup.specs.Options.{added, behind, with_jobs, with_joined, with_option, with_syncs, with_voice};
 ghost use Rattle.tup.specs.declared.options.Fault.TheVariants.{Memory};
 
 use std::alloc::{AllocError, AllocFailed, Global};
@@ -23,7 +23,7 @@ pub(crate) enum Voice {
 pub(crate) struct Options {
     /// The program that runs commands.
     pub(crate) program: Option<Text>,
-    /// Whether what is written is made durable.
+    /// When what is written is made durable.
     pub(crate) syncs: Syncs,
     /// Whether each file is read, also one that looks as it did.
     pub(crate) digests: bool,
@@ -51,6 +51,8 @@ pub(crate) enum Fault {
     NoJobs,
     /// An update can't be quiet and verbose.
     Both,
+    /// What is written can't be made durable once and never.
+    BothSyncs,
     Memory,
 }
 
@@ -62,6 +64,7 @@ impl fmt::Display for Fault {
             Fault::NoProgram => f.write_str("no program behind --proc"),
             Fault::NoJobs => f.write_str("no number from 1 to 16 behind -j"),
             Fault::Both => f.write_str("--quiet and --verbose"),
+            Fault::BothSyncs => f.write_str("--no-sync and --sync-once"),
             Fault::Memory => f.write_str("no memory"),
         }
     }
@@ -142,20 +145,50 @@ impl Options {
         if self.awaits_jobs {
             return self.take_jobs(jobs_in(word.as_bytes()));
         }
+        self.add_option(alloc, word)
+    }
+
+    /// Reads a word that has to be an option.
+    fn add_option(&mut self, alloc: Global, word: &str) -> Result<(), Fault>
+        requires { self.old.awaits_program ≡ false }
+        ensures added { IfOk result (λ _. with_option word.now self.old ≡ Ok self.new) }
+        ensures refused { IfErr result
+            (λ fault. (fault ≡ Memory) ⊎ (with_option word.now self.old ≡ Err fault)) }
+    {
         match word {
             "--proc" if self.program.is_none() => self.awaits_program = true,
-            "--no-sync" if self.syncs == Syncs::Done => self.syncs = Syncs::Skipped,
+            "--no-sync" => return self.sync(alloc, word, Syncs::Skipped),
+            "--sync-once" => return self.sync(alloc, word, Syncs::Once),
             "--digest" if !self.digests => self.digests = true,
             "-k" if !self.keep_going => self.keep_going = true,
             "--quiet" => return self.speak(alloc, word, Voice::Quiet),
             "--verbose" => return self.speak(alloc, word, Voice::Verbose),
             "-j" if self.jobs.is_none() => self.awaits_jobs = true,
-            "--proc" | "--no-sync" | "--digest" | "-k" | "-j" => {
+            "--proc" | "--digest" | "-k" | "-j" => {
                 return Err(Fault::Twice(Text::from_str(alloc, word)?));
             }
             _ => return self.add_joined(alloc, word, joined_jobs(word.as_bytes())),
         }
         Ok(())
+    }
+
+    /// Reads the word that says when what is written is made durable.
+    fn sync(&mut self, alloc: Global, word: &str, syncs: Syncs) -> Result<(), Fault>
+        requires { self.old.awaits_program ≡ false }
+        ensures said { IfOk result
+            (λ _. with_syncs syncs word.now self.old self.old.syncs ≡ Ok self.new) }
+        ensures refused { IfErr result (λ fault. (fault ≡ Memory)
+            ⊎ (with_syncs syncs word.now self.old self.old.syncs ≡ Err fault)) }
+    {
+        let before = self.syncs;
+        match before {
+            Syncs::Done => {
+                self.syncs = syncs;
+                Ok(())
+            }
+            said if said == syncs => Err(Fault::Twice(Text::from_str(alloc, word)?)),
+            _ => Err(Fault::BothSyncs),
+        }
     }
 
     /// Takes the number of commands that had to follow.

@@ -33,6 +33,8 @@ pub(crate) struct Output<'a, P: Print + Eprint> {
     clears: bool,
     lines: Lines,
     pub(crate) counts: Counts,
+    /// What is to be printed once all is durable, where it waits for that.
+    held: Option<Vec<u8>>,
     faults: u64,
 }
 
@@ -47,8 +49,49 @@ impl<'a, P: Print + Eprint> Output<'a, P> {
             clears,
             lines,
             counts: Counts { good: 0, bad: 0 },
+            held: None,
             faults: 0,
         }
+    }
+
+    /// The same, but what is written to it waits until it is printed.
+    pub fn waiting(self, alloc: Global) -> Output<'a, P>
+        ensures { result.faults ≡ self.faults }
+    {
+        let mut output = self;
+        output.held = Some(Vec::new(alloc));
+        output
+    }
+
+    /// Prints what waits; of that without its last line where so is said.
+    pub fn print(&mut self, lacks_last: bool) -> io::Result<()> {
+        match self.held.take() {
+            Some(bytes) if lacks_last => self.say(before_last(&bytes)),
+            Some(bytes) => self.say(&bytes),
+            None => Ok(()),
+        }
+    }
+
+    fn say(&mut self, bytes: &[u8]) -> io::Result<()>
+        ensures { self.new.faults ≡ self.old.faults }
+    {
+        if self.clears {
+            // A line that can't be taken away changes nothing.
+            drop(eprint!(self.to; "{CLEAR}"));
+        }
+        match self.lines {
+            Lines::All => io::writer(self.to).write_all(bytes),
+            Lines::Short => print_short(self.to, bytes, &mut self.counts),
+        }
+    }
+}
+
+/// Lines without the last of them.
+fn before_last(lines: &[u8]) -> &[u8] {
+    let end = lines.len().saturating_sub(1);
+    match lines[..end].iter().rposition(|byte| *byte == b'\n') {
+        Some(at) => &lines[..=at],
+        None => &[],
     }
 }
 
@@ -60,15 +103,13 @@ impl<P: Print + Eprint> Sink for Output<'_, P> {
     ghost faults = { λ output. output.faults };
 
     fn write(&mut self, _alloc: Global, bytes: &Bytes) -> Result<(), SinkFailed> {
-        if self.clears {
-            // A line that can't be taken away changes nothing.
-            drop(eprint!(self.to; "{CLEAR}"));
+        if let Some(held) = &mut self.held {
+            return match held.extend_from_slice(bytes.as_slice()) {
+                Ok(()) => Ok(()),
+                Err(_) => Err(SinkFailed::Memory),
+            };
         }
-        let printed = match self.lines {
-            Lines::All => io::writer(self.to).write_all(bytes.as_slice()),
-            Lines::Short => print_short(self.to, bytes.as_slice(), &mut self.counts),
-        };
-        match printed {
+        match self.say(bytes.as_slice()) {
             Ok(()) => Ok(()),
             Err(_) => {
                 self.faults = self.faults.saturating_add(1);

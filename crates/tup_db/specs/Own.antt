@@ -8,3 +8,5 @@ IsOwnBelow top own =
     (string_bytes own.folder ≡ top ++ codes "/.tup")
     × (string_bytes own.store ≡ top ++ codes "/.tup/db")
     × (string_bytes own.aside ≡ top ++ codes "/.tup/db.new")
+    × (string_bytes own.epoch ≡ top ++ codes "/.tup/epoch")
+    × (string_bytes own.epoch_aside ≡ top ++ codes "/.tup/epoch.new")

@@ -5,8 +5,11 @@
 //! is tested.
 #![tactic(auto)]
 
+mod epoch;
+mod notes;
 mod own;
 mod store;
 
+pub use epoch::{Epoch, end_epoch, recover};
 pub use own::Own;
 pub use store::Store;

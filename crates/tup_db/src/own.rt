@@ -15,6 +15,10 @@ pub struct Own {
     pub store: String,
     /// A new store, till it is made durable and comes to its place.
     pub aside: String,
+    /// What says that an epoch is open.
+    pub epoch: String,
+    /// The same, till it is made durable and comes to its place.
+    pub epoch_aside: String,
 }
 
 impl Own {
@@ -26,32 +30,33 @@ impl Own {
             folder: format!(in alloc; "{root}/.tup")?,
             store: format!(in alloc; "{root}/.tup/db")?,
             aside: format!(in alloc; "{root}/.tup/db.new")?,
+            epoch: format!(in alloc; "{root}/.tup/epoch")?,
+            epoch_aside: format!(in alloc; "{root}/.tup/epoch.new")?,
         })
     }
 
-    /// Removes the store that a run which died was making. It is looked for first: a file system that may only be read refuses a
-    /// removal also where nothing stands.
+    /// Removes the store, and the epoch's file, that a run which died was making. They are looked for first: a file system that may
+    /// only be read refuses a removal also where nothing stands.
     pub fn sweep<R: Files<File = File> + Clone + Drop>(&self, disk: &Disk<R>) -> Result<(), Refused>
         ensures cause { IfErr result (IsUnswept self.now) }
     {
         match disk.standing(self.folder.as_str())? {
             Standing::Nothing => Ok(()),
-            Standing::Folder => self.clear_aside(disk),
+            Standing::Folder => {
+                clear(disk, self.aside.as_str())?;
+                clear(disk, self.epoch_aside.as_str())
+            }
             _ => Err(disk.in_the_way(self.folder.as_str())),
         }
     }
+}
 
-    // Removes what stands in the new store's place, if anything does.
-    fn clear_aside<R: Files<File = File> + Clone + Drop>(
-        &self,
-        disk: &Disk<R>,
-    ) -> Result<(), Refused>
-        ensures cause { IfErr result (IsUncleared self.now) }
-    {
-        let aside = self.aside.as_str();
-        match disk.standing(aside)? {
-            Standing::Nothing => Ok(()),
-            _ => disk.clear(aside),
-        }
+// Removes what stands at a place, if anything does.
+fn clear<R: Files<File = File> + Clone + Drop>(disk: &Disk<R>, place: &str) -> Result<(), Refused>
+    ensures cause { IfErr result (IsUncleared place.now) }
+{
+    match disk.standing(place)? {
+        Standing::Nothing => Ok(()),
+        _ => disk.clear(place),
     }
 }

@@ -2,9 +2,9 @@
 use Rattle.std.specs.Prelude.{◌≡◌, ◌≢◌, ◌⊎◌, ℕ, Bool, true, false, IsTrue, ◌==◌, List, Option, Some, None, String, slice_get, string_bytes, if◌then◌else◌}
 use Rattle.std.specs.Global.{Global}
 use Rattle.std.specs.HashMap.{get_by_text}
-use Rattle.std.specs.Hash.DefaultHasher.{initial, write, finish}
 use Rattle.std.specs.Str.{bytes_eq}
 use Rattle.tup_path.specs.Name.{Content}
+use Rattle.tup_disk.specs.Sum.{sum}
 use Rattle.tup_stamp.specs.Stamp.{stamp}
 use Rattle.tup_stamp.specs.declared.Stamp.{Stamp}
 use Rattle.tup_fs.specs.declared.answers.Answers.{Answers}
@@ -12,10 +12,6 @@ use Rattle.tup_fs.specs.declared.answers.Known.{Known}
 use Rattle.tup_fs.specs.declared.answers.Known.TheVariants.{Unknown, Absent, File, Sum, Noted}
 use Rattle.tup_fs.specs.declared.reading.Found.{Found}
 use Rattle.tup_fs.specs.declared.reading.Found.TheVariants as found
-
--- a sum of a content, in 64 bits
-abbrev pub sum : List ℕ → ℕ
-sum content = finish (write initial content)
 
 -- what is known of a place: what was noted of it, or else that no file is there once all files were listed
 abbrev pub known_from : Bool → Option Known → Known

@@ -3,7 +3,7 @@ use Rattle.std.specs.Prelude.{◌≡◌, ℕ, ◌≤◌, List, ◌++◌, length,
 use Rattle.std.specs.Int.{to_be_bytes, w16, w64}
 use Rattle.tup_disk.specs.declared.stat.Stat.{Stat}
 use Rattle.tup_stamp.specs.declared.Stamp.{Stamp}
-use Rattle.tup_fs.specs.Answers.{sum}
+use Rattle.tup_disk.specs.Sum.{sum}
 use Rattle.tup_fs.specs.declared.note_file.Head.{Head}
 
 -- the first bytes: what the file is, and the version of its form

@@ -12,10 +12,9 @@ use crate::reading::Found;
 use indexmap::IndexMap;
 use std::alloc::Global;
 use std::fs::File;
-use std::hash::{DefaultHasher, Hasher};
 use std::io;
 use std::rt::Files;
-use tup_disk::{Disk, Inode, Listed, Operation, Refused};
+use tup_disk::{Disk, Inode, Listed, Operation, Refused, sum};
 use tup_stamp::{Stamp, stamp_of};
 
 /// What is said of a file that holds something else than it did.
@@ -237,15 +236,6 @@ fn known_of(found: &Found) -> Known
         Found::Content(bytes) => Known::Sum(sum(bytes.as_slice())),
         Found::TooLarge(_) => Known::File(None),
     }
-}
-
-/// A sum of a content. That two contents have the same one is as good as impossible.
-pub(crate) fn sum(content: &[u8]) -> u64
-    ensures { result ≡ specs.sum content.now }
-{
-    let mut hasher = DefaultHasher::new();
-    hasher.write(content);
-    hasher.finish()
 }
 
 /// What happened to a file, if what is known now can't follow from what was known.

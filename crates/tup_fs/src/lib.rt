@@ -8,16 +8,20 @@
 #![tactic(auto)]
 
 mod answers;
+mod commits;
 mod emptied;
 mod failures;
 mod note_disk;
 mod note_file;
 mod notes;
+mod once;
 mod program;
 mod reading;
 mod site;
+mod state;
 mod tree;
 mod writing;
 
+pub use once::OnceSite;
 pub use site::{FsSite, QUIET_SECONDS};
 pub use tup_disk::{Failure, Syncs};

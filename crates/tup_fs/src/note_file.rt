@@ -1,13 +1,12 @@
 //! The bytes of `.tup/stamps`: a head, an entry for each file whose stamp is noted, and a sum of all that.
 //!
 //! It is a hint: of a file of another boot or device, of a later time, or with another sum nothing counts.
-ghost use Rattle.std.specs.Prelude.{◌≡◌, ◌⊎◌, ◌++◌, IfSome, OnOk};
+ghost use Rattle.std.specs.Prelude.{◌≡◌, ◌⊎◌, ◌++◌, length, IfOk, IfSome, OnOk};
 ghost use Rattle.std.specs.Int.{to_be_bytes, w16, w64};
-ghost use Rattle.tup_fs.specs.NoteFile.{entry_bytes, sealed, stat_bytes};
+ghost use Rattle.tup_fs.specs.NoteFile.{IsWhole, entry_bytes, head_bytes, head_from, sealed, stat_bytes};
 
-use crate::answers::sum;
 use std::alloc::{AllocError, Global};
-use tup_disk::{Inode, Stat};
+use tup_disk::{Inode, Stat, sum};
 use tup_stamp::Stamp;
 
 /// The first bytes of the file: what it is, and the version of its form.
@@ -31,7 +30,9 @@ pub(crate) struct Entry<'a> {
 }
 
 /// The bytes with which a file begins.
-pub(crate) fn begin(alloc: Global, head: &Head) -> Result<Vec<u8>, AllocError> {
+pub(crate) fn begin(alloc: Global, head: &Head) -> Result<Vec<u8>, AllocError>
+    ensures { IfOk result (λ bytes. bytes.items ≡ head_bytes head.now) }
+{
     let mut bytes = Vec::new(alloc);
     bytes.extend_from_slice(&MARK)?;
     bytes.extend_from_slice(&head.boot)?;
@@ -72,8 +73,10 @@ pub(crate) fn seal(bytes: &mut Vec<u8>) -> Result<(), AllocError>
 }
 
 /// The entries of a file, if it is whole, of this boot and this device, and was written at no later time.
-pub(crate) fn entries_of<'a>(bytes: &'a [u8], now: &Head) -> Option<&'a [u8]> {
-    let (front, last) = bytes.split_last_chunk::<8>()?;
+pub(crate) fn entries_of<'a>(bytes: &'a [u8], now: &Head) -> Option<&'a [u8]>
+    ensures { IfSome result (λ entries. IsWhole now.now bytes.now entries.now) }
+{
+    let (front, last) = without_sum(bytes)?;
     if long_of(*last) != sum(front) {
         return None;
     }
@@ -85,22 +88,36 @@ pub(crate) fn entries_of<'a>(bytes: &'a [u8], now: &Head) -> Option<&'a [u8]> {
     }
 }
 
+/// All bytes but the last eight, and those.
+fn without_sum(bytes: &[u8]) -> Option<(&[u8], &[u8; 8])>
+    ensures { IfSome result (λ found. bytes.now ≡ found.0.now ++ found.1.now) }
+{
+    bytes.split_last_chunk::<8>()
+}
+
 /// What is behind the head, if that is of this boot and this device, and when the call began that wrote it.
-fn behind_head<'a>(bytes: &'a [u8], now: &Head) -> Option<(u64, &'a [u8])> {
-    let (mark, rest) = bytes.split_first_chunk::<8>()?;
-    let (boot, rest) = rest.split_first_chunk::<36>()?;
+fn behind_head<'a>(bytes: &'a [u8], now: &Head) -> Option<(u64, &'a [u8])>
+    ensures { IfSome result (λ found. bytes.now ≡ head_from now.now found.0 ++ found.1.now) }
+{
+    let (mark, rest) = cut::<8>(bytes)?;
+    let (boot, rest) = cut::<36>(rest)?;
     let (device, rest) = number(rest)?;
     let (began, rest) = number(rest)?;
-    let is_ours = *mark == MARK && *boot == now.boot && device == now.device;
-    if is_ours { Some((began, rest)) } else { None }
+    if *mark != MARK || *boot != now.boot || device != now.device {
+        return None;
+    }
+    Some((began, rest))
 }
 
 /// The first entry, of this device, and what is behind it.
-pub(crate) fn first(bytes: &[u8], device: u64) -> Option<(Entry<'_>, &[u8])> {
-    let (length, rest) = short(bytes)?;
-    let (place, rest) = rest.split_at_checked(length as usize)?;
+pub(crate) fn first(bytes: &[u8], device: u64) -> Option<(Entry<'_>, &[u8])>
+    ensures { IfSome result (λ found. bytes.now
+        ≡ entry_bytes found.0.place.now found.0.stat found.0.stamp ++ found.1.now) }
+{
+    let (count, rest) = short(bytes)?;
+    let (place, rest) = cut_at(rest, count)?;
     let (stat, rest) = stat(rest, device)?;
-    let (stamp, rest) = rest.split_first_chunk::<32>()?;
+    let (stamp, rest) = cut::<32>(rest)?;
     let stamp = Stamp(*stamp);
     Some((Entry { place, stat, stamp }, rest))
 }
@@ -152,4 +169,19 @@ fn short_of(bytes: [u8; 2]) -> u16
     ensures { to_be_bytes w16 result ≡ bytes }
 {
     u16::from_be_bytes(bytes)
+}
+
+/// The first `N` bytes, and those behind them.
+fn cut<const N: usize>(bytes: &[u8]) -> Option<(&[u8; N], &[u8])>
+    ensures { IfSome result (λ found. bytes.now ≡ found.0.now ++ found.1.now) }
+{
+    bytes.split_first_chunk::<N>()
+}
+
+/// So many bytes, and those behind them.
+fn cut_at(bytes: &[u8], count: u16) -> Option<(&[u8], &[u8])>
+    ensures { IfSome result (λ found. (bytes.now ≡ found.0.now ++ found.1.now)
+        × (length found.0.now ≡ count)) }
+{
+    bytes.split_at_checked(count as usize)
 }

@@ -4,14 +4,14 @@ ghost use Rattle.tup_disk.specs.Place.{place_of};
 ghost use Rattle.tup_fs.specs.Answers.{Follows, HasStamp, IsKnownBy, Learns, StayKnown, TellsStamp, content_of, known_at, known_of};
 ghost use Rattle.tup_fs.specs.Found.{IsFoundAs, IsTextOf, IsWithin};
 
-use crate::answers::{Known, sum};
+use crate::answers::Known;
 use crate::notes::{Note, stamp_of_whole};
 use crate::tree::Tree;
 use std::fs::File;
 use std::io;
 use std::io::{ErrorKind, Read};
 use std::rt::Files;
-use tup_disk::{Disk, Operation, Refused, Standing, Stat};
+use tup_disk::{Disk, Operation, Refused, Standing, Stat, sum};
 use tup_path::{Bytes, Path};
 use tup_site::MAX_DISK_FILE_BYTES;
 use tup_stamp::Stamp;

@@ -5,7 +5,8 @@ ghost use Rattle.std.specs.FinMap as finite;
 ghost use Rattle.tup_db.specs.Own.{IsOwnBelow};
 ghost use Rattle.tup_disk.specs.Marked.{IsMarked, AllMarked, StayMarked, places_above};
 ghost use Rattle.tup_disk.specs.Place.{place_of};
-ghost use Rattle.tup_fs.specs.Answers.{Follows, HasStamp, Learns, StayKnown, TellsStamp, known_at, known_by, sum};
+ghost use Rattle.tup_disk.specs.Sum.{sum};
+ghost use Rattle.tup_fs.specs.Answers.{Follows, HasStamp, Learns, StayKnown, TellsStamp, known_at, known_by};
 ghost use Rattle.tup_fs.specs.Last.{CountsOnce, CountsPlainly};
 ghost use Rattle.tup_fs.specs.declared.answers.Known.TheVariants.{Absent, Sum};
 ghost use Rattle.tup_site.specs.Cause.{OnlyLarge};
@@ -21,7 +22,7 @@ use std::fs::File;
 use std::mem;
 use std::rt::Files;
 use std::time::Duration;
-use tup_db::Store;
+use tup_db::{Store, recover};
 use tup_disk::{Disk, Failure, Syncs, Touched};
 use tup_path::{Bytes, Path, Paths};
 use tup_site::{Limits, Site, SiteFailed};
@@ -35,12 +36,12 @@ pub const QUIET_SECONDS: u64 = 60;
 /// faults: each failing call of the system is one.
 #[derive(Drop)]
 pub struct FsSite<R: Files<File = File> + Clone + Drop> {
-    disk: Disk<R>,
+    pub(crate) disk: Disk<R>,
     tree: Tree,
-    touched: Touched,
-    store: Store,
-    lock: Option<File>,
-    failures: Failures,
+    pub(crate) touched: Touched,
+    pub(crate) store: Store,
+    pub(crate) lock: Option<File>,
+    pub(crate) failures: Failures,
 }
 
 impl<R: Files<File = File> + Clone + Drop> FsSite<R> {
@@ -102,8 +103,8 @@ impl<R: Files<File = File> + Clone + Drop> FsSite<R> {
         mem::forget(self.tree);
     }
 
-    // Before anything else the first call takes the lock, and removes what a run that died has left.
-    fn begin(&mut self) -> Result<(), SiteFailed>
+    // Before anything else the first call takes the lock, and removes what a run that died has left, or keeps what is whole of it.
+    pub(crate) fn begin(&mut self) -> Result<(), SiteFailed>
         ensures locked { OnOk result (IsTrue (is_some self.new.lock)) }
         ensures cause { CountsPlainly self.old.failures.count self.new.failures.count result }
         ensures touched { self.new.touched ≡ self.old.touched }
@@ -118,6 +119,8 @@ impl<R: Files<File = File> + Clone + Drop> FsSite<R> {
         let lock = self.failures.told(lock)?;
         let swept = self.store.own.sweep(&self.disk);
         self.failures.told(swept)?;
+        let recovered = recover(&self.disk, &self.store.own, &lock);
+        self.failures.told(recovered)?;
         self.lock = Some(lock);
         Ok(())
     }

@@ -1,12 +1,12 @@
 //! One file, written as a whole or removed. All memory is taken before the tree changes.
 ghost use Rattle.std.specs.Prelude.{◌≡◌, ◌<◌, length, OnOk, string_bytes};
 ghost use Rattle.tup_disk.specs.Place.{place_of};
-ghost use Rattle.tup_fs.specs.Answers as specs;
+ghost use Rattle.tup_disk.specs.Sum as specs;
 ghost use Rattle.tup_fs.specs.Answers.{known_at};
 ghost use Rattle.tup_fs.specs.declared.answers.Known.TheVariants.{Absent, Sum};
 ghost use Rattle.tup_fs.specs.Program.{mode_for};
 
-use crate::answers::{Known, sum};
+use crate::answers::Known;
 use crate::program::is_program;
 use crate::reading::{Found, read};
 use crate::tree::Tree;
@@ -15,7 +15,7 @@ use std::io::{ErrorKind, Write};
 use std::os::unix::fs::OpenOptionsExt;
 use std::rt::Files;
 use std::{fs, io};
-use tup_disk::{Disk, Operation, Refused, Standing};
+use tup_disk::{Disk, Operation, Refused, Standing, sum};
 use tup_path::Path;
 
 impl Tree {

@@ -19,11 +19,13 @@ use session::Session;
 use std::alloc::Global;
 use std::fs::Files;
 use std::io;
+use tup_fs::Syncs;
 use tup_rows::try_file_by;
 
 fn main(rt: HostRuntime) -> io::Result<()> {
     let alloc = rt.alloc();
-    try_file_by(&rt, alloc, "fs.rows", Session::new(rt, alloc, ".")?)?;
+    let session = Session::new(rt, alloc, ".", Syncs::Done)?;
+    try_file_by(&rt, alloc, "fs.rows", session)?;
     try_memory(&rt, alloc)?;
     try_words(&rt, alloc)
 }

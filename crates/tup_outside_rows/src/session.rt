@@ -5,7 +5,7 @@ use crate::scanned::{passes, scanned, stamps};
 use std::alloc::{AllocError, Global};
 use std::rt::Clock;
 use std::{fs, mem};
-use tup_fs::{FsSite, Syncs};
+use tup_fs::{FsSite, OnceSite, Syncs};
 use tup_path::Bytes;
 use tup_rows::{Answers, RowFault, Words};
 use tup_site::Site;
@@ -15,15 +15,17 @@ use tup_stamp::hex;
 #[derive(Drop)]
 pub(crate) struct Session {
     folder: Folder,
-    site: FsSite<HostRuntime>,
+    syncs: Syncs,
+    site: OnceSite<HostRuntime>,
 }
 
 impl Answers for Session {
     fn answer(&mut self, alloc: Global, call: &str, said: &Words) -> Result<Words, RowFault> {
         Ok(match call {
-            "begin" => self.begin(alloc, said.str_at(0)),
+            "begin" => self.begin(alloc, said.str_at(0), Syncs::Done),
+            "once" => self.begin(alloc, said.str_at(0), Syncs::Once),
             "again" => self.again(alloc),
-            "over" => self.over(alloc, said.str_at(0)),
+            "over" => self.over(alloc, said.str_at(0), Syncs::Done),
             "beside" => self.beside(alloc),
             "keep" => self.keep(alloc, said.number_at(0)),
             "leave" => self.leave(alloc),
@@ -41,13 +43,22 @@ impl Answers for Session {
 
 impl Session {
     /// A site over a folder that is there.
-    pub(crate) fn new(rt: HostRuntime, alloc: Global, place: &str) -> Result<Session, AllocError> {
+    pub(crate) fn new(
+        rt: HostRuntime,
+        alloc: Global,
+        place: &str,
+        syncs: Syncs,
+    ) -> Result<Session, AllocError> {
         let folder = Folder {
             rt,
             place: String::from_str(alloc, place)?,
         };
-        let site = FsSite::new(rt, alloc, place, Syncs::Done)?;
-        Ok(Session { folder, site })
+        let site = OnceSite::new(FsSite::new(rt, alloc, place, syncs)?);
+        Ok(Session {
+            folder,
+            syncs,
+            site,
+        })
     }
 
     fn answer_of_files(&mut self, alloc: Global, call: &str, said: &Words) -> Words {
@@ -67,16 +78,16 @@ impl Session {
     }
 
     /// Makes a folder, and begins a site over it.
-    fn begin(&mut self, alloc: Global, name: &str) -> Words {
+    fn begin(&mut self, alloc: Global, name: &str, syncs: Syncs) -> Words {
         match fs::create_dir(&self.folder.rt, name) {
-            Ok(()) => self.over(alloc, name),
+            Ok(()) => self.over(alloc, name, syncs),
             Err(_) => Words::none(alloc, RowFault::OtherKind),
         }
     }
 
     /// Begins a site over a folder that is there.
-    fn over(&mut self, alloc: Global, place: &str) -> Words {
-        match Session::new(self.folder.rt, alloc, place) {
+    fn over(&mut self, alloc: Global, place: &str, syncs: Syncs) -> Words {
+        match Session::new(self.folder.rt, alloc, place, syncs) {
             Ok(session) => {
                 *self = session;
                 Words::done(alloc)
@@ -90,7 +101,7 @@ impl Session {
             self.folder.rt,
             alloc,
             self.folder.place.as_str(),
-            Syncs::Done,
+            self.syncs,
         )
     }
 
@@ -98,7 +109,7 @@ impl Session {
     fn again(&mut self, alloc: Global) -> Words {
         match self.another(alloc) {
             Ok(site) => {
-                self.site = site;
+                self.site = OnceSite::new(site);
                 Words::done(alloc)
             }
             Err(_) => Words::none(alloc, RowFault::Memory),
@@ -122,7 +133,7 @@ impl Session {
             return Words::none(alloc, RowFault::OtherKind);
         };
         site.keep_stamps(now, seconds);
-        self.site = site;
+        self.site = OnceSite::new(site);
         Words::done(alloc)
     }
 
@@ -130,7 +141,7 @@ impl Session {
     fn leave(&mut self, alloc: Global) -> Words {
         match self.another(alloc) {
             Ok(site) => {
-                mem::replace(&mut self.site, site).leave();
+                mem::replace(&mut self.site, OnceSite::new(site)).leave();
                 Words::done(alloc)
             }
             Err(_) => Words::none(alloc, RowFault::Memory),
