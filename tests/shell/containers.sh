@@ -1,8 +1,10 @@
 #!/bin/sh
 # The commands of tup_sh where people build: as root and as a user, as root of a user namespace, as root who may not mount, with the
 # project on an overlay as in an image layer, in a root of its own, and where a container's filter refuses mounts, namespaces or the
-# tracer. Where a command can run apart all rows of shell.sh have to come out, and an update of examples/c; else one line says why
-# it can't, and the project is as it was. Last, what the CI files of examples/ci call. Each way is made on the spot, without
+# tracer. Where a command can run apart all rows of shell.sh have to come out, and an update of examples/c; but for the rows of file
+# systems in the project where root of a user namespace may lay no overlay over them, and the row of the mark that a project keeps
+# where an overlay can't hold it: these are passed over, and it is said. Else one line says why a command can't run apart, and the
+# project is as it was. Last, what the CI files of examples/ci call. Each way is made on the spot, without
 # Docker; what can't be made is passed over. Words: tup and tup_sh, and a folder with a Debian of its own (none: without). It ends with 1
 # where something else came, and says so.
 set -u
@@ -49,6 +51,9 @@ way() {
     all=$((all + 1))
 }
 
+# tells: how many commands were right, and what was passed over.
+tells() { printf '%s: %s\n' "$what" "$({ grep '^passed over' "$work/said"; tail -n 1 "$work/said"; } | paste -sd ';')"; }
+
 # whole NAME COMMAND ..: all rows of shell.sh, and examples/c, in a folder that anybody may write to.
 whole() {
     way "$@" || return
@@ -58,7 +63,7 @@ whole() {
     WORK=$place "$@" sh "$work/shell.sh" "$sh" > "$work/said" 2>&1 || wrong "shell.sh: $(cat "$work/said")"
     tail -n 1 "$work/said" | grep -q ' commands, 0 wrong$' || wrong "shell.sh: $(tail -n 3 "$work/said")"
     builds "$@"
-    printf '%s: %s\n' "$what" "$(tail -n 1 "$work/said")"
+    tells
     place=
 }
 
@@ -127,7 +132,7 @@ if [ "$(id -u)" = 0 ]; then
             shift
             mkdir "$work/in$all" && chmod 777 "$work/in$all"
             "$@" env WORK=/mnt/in$all sh /mnt/shell.sh "$sh" > "$work/said" 2>&1 || wrong "shell.sh: $(cat "$work/said")"
-            printf '%s: %s\n' "$what" "$(tail -n 1 "$work/said")"
+            tells
         }
         debian_rows 'Debian in a root of its own' $inside
         debian_rows 'a user of Debian in a root of its own' $inside $user

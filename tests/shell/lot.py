@@ -17,7 +17,7 @@ As root, some edits lay another file system over a folder of the project, or ano
 that meets a link to a folder fails by design: what comes of that isn't compared.
 
 Not drawn, as USING says that a command isn't run again for them: a folder that is listed and gets or loses a name, an empty folder or
-one that has only outputs, what is missed through a link that the command made and removed, modes, and names that tup doesn't see.
+one that has only outputs, what is missed through a link into /proc that the command made and removed, modes, and names that tup doesn't see.
 
 What went wrong is printed with its seed, and the history is kept as a file for --again and --small. The end is then 1.
 """
@@ -191,8 +191,9 @@ class Drawing:
         if kind == 'movedin':
             return 'mkdir n%d && { cp %s n%d/z; mv n%d o%d; cat o%d/z; rm -rf o%d; }' % (n, at, n, n, n, n, n)
         if kind == 'linked':
-            # What is missed through a link that the command takes away again isn't known: so it is asked for besides.
-            return 'ln -s %s k%d && { test -e %s; cat k%d; rm k%d; }' % (at, n, at, n, n)
+            # What is missed through a link into /proc that the command takes away again isn't known: so it is asked for besides.
+            asked = 'test -e %s; ' % at if at.startswith('/proc/') else ''
+            return 'ln -s %s k%d && { %scat k%d; rm k%d; }' % (at, n, asked, n, n)
         if kind == 'size':
             return '(wc -c < %s)' % at
         if kind == 'kind':

@@ -119,6 +119,8 @@ turns 'a file that is made in a folder' 'echo x > sub/tmp && cat sub/tmp && rm s
 turns 'a file that is made in one that comes' 'cp a d/tmp && cat d/tmp && rm d/tmp' '' "$come" a "$go" ''
 turns 'a hidden file that is made in a folder' 'echo x > sub/.tmp && cat sub/.tmp && rm sub/.tmp' x 'rm -r sub' '' "$back" x
 turns 'a link that is made in a folder' 'ln -s a sub/l && echo l && rm sub/l' l 'rm -r sub' '' "$back" l
+turns 'a link that is made, looked through and removed' 'ln -s d/x l && { cat l; rm l; }' '' 'mkdir d; echo x > d/x' x 'rm -r d' ''
+turns 'one that is made in a folder' 'ln -s ../k sub/l && { cat sub/l; rm sub/l; }' '' 'echo k > k' k 'rm k' ''
 turns 'a hard link that is made in a folder' 'ln a sub/l && echo l && rm sub/l' l 'rm -r sub' '' "$back" l
 turns 'what is moved into a folder' 'cp a t; mv t sub/t && echo m; rm -f t sub/t' m 'rm -r sub' '' "$back" m
 turns 'a folder becomes a file above what is missed' 'cat sub/t/x 2>&1 | sed "s/.*: //"' 'No such file or directory' 'rm -r sub; echo x > sub' 'Not a directory' \

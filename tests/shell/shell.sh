@@ -177,7 +177,7 @@ if command -v gcc > /dev/null; then
 fi
 # -- what outlives the command is ended with it; a signal's number comes as a shell tells it
 try '' '(setsid sleep 9; echo late >late) & echo now >now' 'W now,E 0'
-try '' 'rm -f ln; cp -P dl dl2; set -C; echo >b; kill -9 $$' 'R ln,A dl2,R dl,R b,W ln,E 137'
+try '' 'rm -f ln; cp -P dl dl2; set -C; echo >b; kill -9 $$' 'R ln,A dl2,R dl,R b,A sub,W ln,E 137'
 try '' 'kill -TERM $$' 'E 143'
 try '' 'exit 3' 'E 3'
 # -- whatever a command does, no source changes
@@ -229,9 +229,10 @@ try '' '[ -d . ] && [ -d .. ] && cd ../src && cat a' 'R a,E 0'
 # for the command
 try '' 'mkdir sub/t && rmdir sub/t' 'A sub,A sub/t,E 0'
 try '' 'echo x > sub/tmp; rm sub/tmp; echo x >> e/tmp; rm e/tmp' 'A sub,A e,A e/tmp,E 0'
-try '' 'ln -s x sub/l; rm sub/l; ln a e/hl; rm e/hl' 'A sub,A sub/l,R a,A e,A e/hl,E 0'
+try '' 'ln -s x sub/l; rm sub/l; ln a e/hl; rm e/hl' 'A sub,A sub/l,R a,A e,A e/hl,A sub/x,E 0'
 try '' 'echo x > t; mv t sub/t; rm sub/t' 'A sub,A sub/t,E 0'
 try '' 'mkdir d/t' 'A d,A d/t,E 1'
+try '' 'ln -s sub/no k; cat k; rm k' 'A k,A sub,A sub/no,E 0'
 try '' 'cat d/f/g d/f/h a/x' 'A d/f,A d,A d/f/g,A d/f/h,R a,A a/x,E 1'
 try '' 'cat d/f/../g' 'A d,A d/f,E 1'
 try '' 'mkdir sub/t; echo x > sub/t/f; cat sub/t/g; rm -r sub/t' 'A sub,A sub/t,E 0'
@@ -320,7 +321,8 @@ told 'cat: sub/s: No such file'
 try '' 'mkdir c && echo x >c/f && chmod 0 c; kill -9 $$' 'A c,W c/f,E 137'
 text='a stage that was left'
 all=$((all + 1))
-mkdir "$stage/up/src/more" && chmod 0 "$stage/up/src/more" "$stage/wk/work"
+mkdir "$stage/up/src/more" && chmod 0 "$stage/up/src/more"
+[ ! -d "$stage/wk/work" ] || chmod 0 "$stage/wk/work"
 "$sh" "$root" src "$stage" 'echo y >new' > "$work/said" 2>&1 || wrong "exit number $?: $(cat "$work/said")"
 [ "$(lines)" = 'W new,E 0' ] || wrong "its log says $(lines)"
 kept 0 y
@@ -381,6 +383,14 @@ before_is() {
 before_is 'none' -u OLDPWD
 before_is 'one' OLDPWD=/nowhere
 before_is 'the root' OLDPWD=/
+# -- the signals that it ignores are those that its caller ignores, but for 32 and 33: the C library keeps them for itself, and its
+# posix_spawn ignores them in what it starts, as make's commands have it too
+text='signals'
+all=$((all + 1))
+project
+: > "$stage/own"
+"$sh" "$root" src "$stage" 'sed -n "s/^SigIgn:.//p" /proc/self/status > out' > "$work/said" 2>&1 || wrong "exit number $?: $(cat "$work/said")"
+[ $((0x$(cat "$stage/w0") & ~0x180000000)) = $((0x$(sed -n 's/^SigIgn:.//p' /proc/self/status) & ~0x180000000)) ] || wrong "it ignores $(cat "$stage/w0")"
 # -- a file that is changed while it is read: the command runs once more, and then it is refused
 text='a file that is changed and changed back'
 all=$((all + 1))
@@ -420,8 +430,11 @@ if command -v gcc > /dev/null; then
     try 's.o' 'gcc -c s.c -o s.o; realpath nope' 'R s.c,A s.o,A s.c.gch,A h.h.gch,R h.h,A nope,W s.o,E 0'
 fi
 
-# -- file systems in the project, and other places where it stands
-if [ "$(id -u)" = 0 ] && unshare -m true 2> /dev/null; then
+# -- file systems in the project, and other places where it stands. Root of a namespace of users can mount them, but can't lay an
+# overlay over them: commands are refused there, which a row below sees.
+if [ "$(id -u)" = 0 ] && ! grep -q '^ *0 *0 *4294967295$' /proc/self/uid_map; then
+    echo 'passed over: file systems in the project, for root of a namespace of users can lay no overlay over them'
+elif [ "$(id -u)" = 0 ] && unshare -m true 2> /dev/null; then
     # mounted SETUP TEXT LINES: the same where this was mounted before, in a namespace of its own.
     mounted() {
         text=$2
@@ -478,27 +491,32 @@ project
 status=$?
 [ $status = 1 ] || wrong "exit number $status"
 told "tup_sh: the folder of the command isn't there"
-# -- a project keeps the mark that hides .tup: only its first command makes one. What isn't one isn't taken
-text='the mark'
-all=$((all + 1))
-project
-mkdir "$work/bad" && printf '#!/bin/sh\nexit 1\n' > "$work/bad/mknod" && chmod +x "$work/bad/mknod"
-again() {
-    rm -rf "$stage" && mkdir "$stage" && : > "$stage/own"
-    "$@" "$sh" "$root" src "$stage" 'ls -a .. && cat ../.tup/options' > "$work/said" 2>&1
-}
-again env || wrong "exit number $?: $(cat "$work/said")"
-[ -c "$root/.tup/mark" ] || wrong 'it is not kept'
-again env PATH="$work/bad:$PATH" || wrong "exit number $? with one kept: $(cat "$work/said")"
-if grep -q '\.tup$' "$work/said"; then wrong '.tup is seen'; fi
-rm "$root/.tup/mark" && echo x > "$root/.tup/mark"
-again env || wrong "exit number $? with a file in its place: $(cat "$work/said")"
-if grep -q '\.tup$' "$work/said"; then wrong '.tup is seen behind a file'; fi
-again env PATH="$work/bad:$PATH" && wrong 'a file was taken for it'
-told "tup_sh: the stage can't be made"
-rm "$root/.tup/mark" && mkfifo "$root/.tup/mark"
-again env || wrong "exit number $? with a pipe in its place: $(cat "$work/said")"
-rm "$root/.tup/mark" && again env && [ -c "$root/.tup/mark" ] || wrong 'it is not kept again'
+# -- a project keeps the mark that hides .tup: only its first command makes one. What isn't one isn't taken. On an overlay none can
+# be made: what a command writes is held in memory there, and each makes its own.
+if [ "$(stat -f -c %T "$work")" = overlayfs ]; then
+    echo 'passed over: the mark that a project keeps, which no overlay can hold'
+else
+    text='the mark'
+    all=$((all + 1))
+    project
+    mkdir "$work/bad" && printf '#!/bin/sh\nexit 1\n' > "$work/bad/mknod" && chmod +x "$work/bad/mknod"
+    again() {
+        rm -rf "$stage" && mkdir "$stage" && : > "$stage/own"
+        "$@" "$sh" "$root" src "$stage" 'ls -a .. && cat ../.tup/options' > "$work/said" 2>&1
+    }
+    again env || wrong "exit number $?: $(cat "$work/said")"
+    [ -c "$root/.tup/mark" ] || wrong 'it is not kept'
+    again env PATH="$work/bad:$PATH" || wrong "exit number $? with one kept: $(cat "$work/said")"
+    if grep -q '\.tup$' "$work/said"; then wrong '.tup is seen'; fi
+    rm "$root/.tup/mark" && echo x > "$root/.tup/mark"
+    again env || wrong "exit number $? with a file in its place: $(cat "$work/said")"
+    if grep -q '\.tup$' "$work/said"; then wrong '.tup is seen behind a file'; fi
+    again env PATH="$work/bad:$PATH" && wrong 'a file was taken for it'
+    told "tup_sh: the stage can't be made"
+    rm "$root/.tup/mark" && mkfifo "$root/.tup/mark"
+    again env || wrong "exit number $? with a pipe in its place: $(cat "$work/said")"
+    rm "$root/.tup/mark" && again env && [ -c "$root/.tup/mark" ] || wrong 'it is not kept again'
+fi
 # -- a stage that the next update takes while the command still runs stays the next one's
 text='a stage that is taken'
 all=$((all + 1))
@@ -515,7 +533,7 @@ status=$?
 [ $status = 1 ] || wrong "exit number $status"
 [ "$(cd "$stage" && find . | sort)" = "$before" ] || wrong "there is $(cd "$stage" && find . | paste -sd, -)"
 [ "$(cat "$stage/log")" = next ] || wrong 'its log was written'
-told 'tup_sh: another update has taken the stage away'
+told 'another update has taken the stage away'
 # -- the same through a second command that begins while the first still runs
 text='a stage that another command takes'
 all=$((all + 1))

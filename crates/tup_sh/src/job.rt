@@ -7,6 +7,7 @@ use crate::listed::listed;
 use crate::listing::entries;
 use crate::log::Asks;
 use crate::mark::{Moment, mark, pass};
+use crate::pointed::pointed;
 use crate::seen::{Seen, Untracked};
 use crate::stage::prepare;
 use crate::start::{Apart, names_missing, start};
@@ -254,11 +255,13 @@ impl<R: Files<File = File> + Processes + Eprint + Clone + Drop> Job<R> {
     ) -> Result<Account, Failure> {
         let folder = task.tree.source(&task.dir)?;
         let acts = acts_of(self.alloc, folder.as_bytes(), calls)?;
+        let asks = pointed(self.alloc, calls, acts.as_slice())?;
         resolved(
             self.alloc,
             task.tree,
             &task.ground,
             acts.as_slice(),
+            asks.as_slice(),
             untracked,
         )
     }
@@ -347,6 +350,7 @@ fn resolved<R: Files<File = File> + Clone + Drop>(
     tree: &Tree<R>,
     ground: &Ground,
     acts: &[Act],
+    asks: &[Act],
     untracked: &mut Untracked,
 ) -> Result<Account, Failure> {
     let mut account = Account::new(alloc);
@@ -360,6 +364,7 @@ fn resolved<R: Files<File = File> + Clone + Drop>(
         is_sure: true,
     };
     seen.follow_all(alloc, acts)?;
+    seen.follow_all(alloc, asks)?;
     drop(seen);
     Ok(account)
 }

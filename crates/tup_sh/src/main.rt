@@ -15,6 +15,7 @@ mod listed;
 mod listing;
 mod log;
 mod mark;
+mod pointed;
 mod programs;
 mod script;
 mod seen;
