@@ -1,4 +1,4 @@
-/* A clock that shows another time, for tests/faults/stamps.sh and tests/faults/calls.sh: put before a program's libraries (LD_PRELOAD), it is so
+/* A clock that shows another time, for scripts of tests/: put before a program's libraries (LD_PRELOAD), it is so
  * many seconds ahead as CLOCK_AHEAD says, or behind. */
 #define _GNU_SOURCE
 #include <stdlib.h>

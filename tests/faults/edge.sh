@@ -63,16 +63,20 @@ done < "$work/list"
 [ -s "$work/list" ] || same "calls of an update" none some
 
 # Less and less memory for the program itself: an update is done, or it ends with 12 and leaves the old output or the new one,
-# as it takes all its memory before a file goes (with 127 it didn't even begin; with 2,500 the system can't load it).
+# as it takes all its memory before a file goes. With less than `least` the system can't load the program, or kills it before its
+# first call.
 wanted_large=$(head -c 1000000 /dev/zero | tr '\0' x | cksum)
-for limit in $(seq 2750 250 9000); do
+least=2500
+until prlimit --as=$((least * 1024)) "$tup" --version > /dev/null 2>&1 || [ "$least" -ge 9000 ]; do least=$((least + 50)); done
+[ "$least" -lt 6000 ] || same "the memory that the program asks for to begin" "$least kilobytes" "less than 6000"
+for limit in $(seq "$least" 250 9000); do
     what="$limit kilobytes of memory"
     project "$copy"
     "$tup" > /dev/null
     head -c 1000000 /dev/zero | tr '\0' x > a
     prlimit --as=$((limit * 1024)) "$tup" > "$work/told" 2> /dev/null
     case "$? $(tail -1 "$work/told")" in
-        '0 done: 0 read, 1 run, 0 removed' | '12 fault: no memory' | '12 ' | '127 ') ;;
+        '0 done: 0 read, 1 run, 0 removed' | '12 fault: no memory' | '12 ') ;;
         *) same "$what" "$? $(tail -1 "$work/told")" "done, or no memory" ;;
     esac
     same "$what, the source" "$(cksum < a)" "$wanted_large"
