@@ -76,7 +76,7 @@ Exit numbers: 0 done, 1 a command's fault, 2 usage, 3 no project here, or one al
 const JOBS: u32 = 4;
 
 /// The version. The tests, the manual and the Makefile read it here.
-const VERSION: &str = "0.14";
+const VERSION: &str = "0.15";
 
 /// How many bytes the block has that is freed first.
 const FIRST_BLOCK: usize = 33_000_000;
