@@ -6,12 +6,12 @@
 # of five by turns. Words: the program, and numbers of folders (none: 100 1000). It is no part of the gate.
 set -eu
 tup=$(realpath "$1")
-tests=$(realpath "$(dirname "$0")")
+here=$(realpath "$(dirname "$0")")
 shift
 if [ $# -eq 0 ]; then set -- 100 1000; fi
 work=$(mktemp -d "${WORK:-/dev/shm}/figures.XXXXXX")
 trap 'cd /; rm -rf "$work"' EXIT
-cc -O2 -o "$work/reads" "$tests/reads.c"
+cc -O2 -o "$work/reads" "$here/reads.c"
 
 # sources FOLDERS: so many folders with ten sources each, in a new project.
 sources() {
