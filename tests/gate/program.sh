@@ -119,7 +119,7 @@ said ".tup/options: unknown word that isn't UTF-8"
 for words in '-j 17' '-j 0' '-j 04' '-j' '-j -k' '-j x'; do
     echo "$words" > .tup/options
     row "the options $words" 2 '' upd
-    said '.tup/options: no number from 1 to 16 behind -j'
+    said '.tup/options: no number from 1 to 16 after -j'
 done
 for word in -j17 -j0 -j04 -jx -j=4; do
     echo "$word" > .tup/options

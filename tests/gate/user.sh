@@ -203,10 +203,10 @@ file "they are written" .tup/options "$(printf '%s\n' --no-sync --proc "$work/wi
 row "a program with a blank in its path" 0 "$made" ''
 file "it has run" b three
 folder "$copy"
-row "--proc without a program" 2 'fault: usage, word 3;' 'tup: no program behind --proc;' init --proc
-row "a program that looks like an option" 2 'fault: usage, word 3;' 'tup: no program behind --proc;' init --proc --no-sync
-row "a program without a name" 2 'fault: usage, word 3;' 'tup: no program behind --proc;' init --proc ''
-row "a program of two lines" 2 'fault: usage, word 3;' 'tup: no program behind --proc;' init --proc "$(printf 'a\nb')"
+row "--proc without a program" 2 'fault: usage, word 3;' 'tup: no program after --proc;' init --proc
+row "a program that looks like an option" 2 'fault: usage, word 3;' 'tup: no program after --proc;' init --proc --no-sync
+row "a program without a name" 2 'fault: usage, word 3;' 'tup: no program after --proc;' init --proc ''
+row "a program of two lines" 2 'fault: usage, word 3;' 'tup: no program after --proc;' init --proc "$(printf 'a\nb')"
 row "two programs" 2 'fault: usage, word 4;' 'tup: a second --proc;' init --proc one --proc two
 row "both words for what is shown" 2 'fault: usage, word 3;' 'tup: --quiet and --verbose;' init --quiet --verbose
 row "an option twice" 2 'fault: usage, word 3;' 'tup: a second --no-sync;' init --no-sync --no-sync
@@ -247,7 +247,7 @@ row "the call names another" 0 'run .: cp a b;done: 0 read, 1 run, 0 removed;' '
 options "a program that isn't there, -k and --verbose: it lists all the same" '--proc\nno_such_program\n-k\n--verbose\n' 8 \
     'read .;fault: the runner failed;' "[1/1] .: cp a b;tup: no_such_program: $no_start"
 row "what would be done needs no program, and shows none" 0 'todo run .: cp a b;done: 0 read, 0 run, 0 removed;' '' todo
-options "no program behind --proc" '--proc\n' 2 '' 'tup: .tup/options: no program behind --proc;'
+options "no program after --proc" '--proc\n' 2 '' 'tup: .tup/options: no program after --proc;'
 options "two programs" "--proc one\n--proc two\n" 2 '' 'tup: .tup/options: a second --proc;'
 options "an option twice" '--no-sync\n--no-sync\n' 2 '' 'tup: .tup/options: a second --no-sync;'
 options "a word that is none" '--fast\n' 2 '' 'tup: .tup/options: unknown word --fast;'
@@ -566,7 +566,7 @@ usage '-j' 2 'a number from 1 to 16 has to follow -j' -j
 usage '-j 99' 2 'a number from 1 to 16 has to follow -j, and not 99' -j 99
 usage '--proc' 2 'a program has to follow --proc' --proc
 usage '-k -k' 2 '-k stands there twice, or beside a word that it doesn'"'"'t go with' -k -k
-usage 'init --proc' 3 'no program behind --proc' init --proc
+usage 'init --proc' 3 'no program after --proc' init --proc
 same "-h is --help" "$("$tup" -h)" "$("$tup" --help)"
 
 # A command that is none of the small ones.

@@ -1,4 +1,4 @@
--- Who else may have made what stands at the place of the store, and what is said of that. Own.
+-- Who else may have made the file at the place of the store, and what is said of that. Own.
 use Rattle.std.specs.Prelude.{ℕ, List, [], ◌∷◌, nat_eq, Option, Some, None, if◌then◌else◌, codes}
 use Rattle.std.specs.List.{starts_with}
 use Rattle.tup.specs.declared.makers.Maker.{Maker}
@@ -11,7 +11,7 @@ maker_of first = if starts_with nat_eq first (codes "SQLite format 3") then Some
     else if starts_with nat_eq first (116 ∷ 117 ∷ 112 ∷ 45 ∷ 100 ∷ 98 ∷ 10 ∷ 1 ∷ []) then Some Early
     else None
 
--- what is said of a store that another made, behind its place
+-- what is said of a store that another made, after its place
 abbrev pub said_of : Maker → List ℕ
 said_of Early = codes "is of an early version: remove it and the files that were made, then `tup init` begins anew"
 said_of Other = codes "is of another tup (SQLite): move .tup away"

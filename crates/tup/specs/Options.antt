@@ -13,11 +13,11 @@ use Rattle.tup.specs.declared.options.Fault.TheVariants.{Unknown, Twice, NoJobs,
 abbrev pub with_program : List ℕ → Options → Options
 with_program word options = record options { program = Some word; awaits_program = false }
 
--- the option before a program, which stands once
+-- the option before a program, which may be given once
 abbrev pub with_proc : List ℕ → Options → Result Options Fault
 with_proc word options = if is_some options.program then Err (Twice word) else Ok (record options { awaits_program = true })
 
--- the option that says when what is written is made durable: of the two one stands, once
+-- the option that says when what is written is made durable: one of the two may be given, once
 abbrev pub with_syncs : Syncs → List ℕ → Options → Syncs → Result Options Fault
 with_syncs syncs word options Done = Ok (record options { syncs = syncs })
 with_syncs Skipped word options Skipped = Err (Twice word)
@@ -27,15 +27,15 @@ with_syncs Once word options Skipped = Err BothSyncs
 with_syncs Done word options Once = Err BothSyncs
 with_syncs Skipped word options Once = Err BothSyncs
 
--- the option by which each file is read, which stands once
+-- the option by which each file is read, which may be given once
 abbrev pub with_digest : List ℕ → Options → Result Options Fault
 with_digest word options = if options.digests then Err (Twice word) else Ok (record options { digests = true })
 
--- the option by which an update goes on after a bad command, which stands once
+-- the option by which an update goes on after a bad command, which may be given once
 abbrev pub with_keep_going : List ℕ → Options → Result Options Fault
 with_keep_going word options = if options.keep_going then Err (Twice word) else Ok (record options { keep_going = true })
 
--- the option that says how much is shown: of the two one stands, once
+-- the option that says how much is shown: one of the two may be given, once
 abbrev pub with_voice : Voice → List ℕ → Options → Option Voice → Result Options Fault
 with_voice voice word options None = Ok (record options { voice = Some voice })
 with_voice Quiet word options (Some Quiet) = Err (Twice word)
@@ -43,21 +43,21 @@ with_voice Verbose word options (Some Verbose) = Err (Twice word)
 with_voice Quiet word options (Some Verbose) = Err Both
 with_voice Verbose word options (Some Quiet) = Err Both
 
--- the option before how many commands are run at a time, which stands once
+-- the option before how many commands are run at a time, which may be given once
 abbrev pub before_jobs : List ℕ → Options → Result Options Fault
 before_jobs word options = if is_some options.jobs then Err (Twice word) else Ok (record options { awaits_jobs = true })
 
--- the number behind it; what is none from 1 to 16 is refused
+-- the number after it; anything but 1 to 16 is refused
 abbrev pub with_jobs : Option ℕ → Options → Result Options Fault
 with_jobs None options = Err NoJobs
 with_jobs (Some number) options = Ok (record options { jobs = Some number; awaits_jobs = false })
 
--- a word that has the number in itself, of an option that stands once; any other isn't known
+-- a word that has the number in itself, of an option that may be given once; any other isn't known
 abbrev pub with_joined : List ℕ → Option ℕ → Options → Result Options Fault
 with_joined word None options = Err (Unknown word)
 with_joined word (Some number) options = if is_some options.jobs then Err (Twice word) else Ok (record options { jobs = Some number })
 
--- options behind a word that has to be an option; what can't stand there is refused
+-- options after a word that has to be an option; what can't be there is refused
 abbrev pub with_option : List ℕ → Options → Result Options Fault
 with_option word options = if bytes_eq word (codes "--proc") then with_proc word options
     else if bytes_eq word (codes "--no-sync") then with_syncs Skipped word options options.syncs
@@ -69,7 +69,7 @@ with_option word options = if bytes_eq word (codes "--proc") then with_proc word
     else if bytes_eq word (codes "-j") then before_jobs word options
     else with_joined word (joined_jobs word) options
 
--- options behind one word more: what has to follow, or else an option
+-- options after one word more: what has to follow, or else an option
 abbrev pub added : List ℕ → Options → Result Options Fault
 added word options = if options.awaits_program then Ok (with_program word options)
     else if options.awaits_jobs then with_jobs (jobs_in word) options

@@ -21,7 +21,7 @@ pub(crate) fn explain<S: Site>(
     site: &mut S,
     status: &Status,
 ) {
-    // Without memory nothing is said: the status tells as much.
+    // Without memory nothing is said: the exit number says as much.
     drop(match status {
         Status::Parse { fault } => explain_fault(rt, alloc, top, site, fault),
         Status::Limit {
@@ -87,7 +87,7 @@ fn print_named(
     };
     let file = place_of(alloc, top, file)?;
     let path = place_of(alloc, top, path)?;
-    // Words that can't be printed change nothing: the exit number tells as much.
+    // Words that can't be printed change nothing: the exit number says as much.
     drop(eprintln!(rt; "{file}:{line}: {path}: {why}"));
     Ok(())
 }
@@ -112,7 +112,7 @@ fn print_line<S: Site>(
         _ => Bytes::new(Vec::new(alloc)),
     };
     let text = line_of(&content, *line);
-    // Words that can't be printed change nothing: the exit number tells as much.
+    // Words that can't be printed change nothing: the exit number says as much.
     drop(match why(kind, text) {
         Some(why) => eprintln!(rt; "{place}:{line}: {why}: {text}"),
         None if text.is_empty() || is_users(kind) => eprintln!(rt; "{place}:{line}: {kind}"),
@@ -184,7 +184,7 @@ fn name_large<S: Site>(
         let place = place_of(alloc, top, path)?;
         if let Some(len) = len_of(rt, place.as_str()) {
             if len > most {
-                // Words that can't be printed change nothing: the exit number tells as much.
+                // Words that can't be printed change nothing: the exit number says as much.
                 drop(eprintln!(rt; "tup: {place} has {len} bytes, and a file has {most} at most"));
             }
         }

@@ -129,7 +129,7 @@ fn run_crew<W: Threads + Wait + Sync, R: Runner + Send>(
         tell_counts(rt, &status, output.counts, began);
     }
     if let Some(failure) = site.last() {
-        // Words that can't be printed change nothing: the exit number tells as much.
+        // Words that can't be printed change nothing: the exit number says as much.
         drop(eprintln!(rt; "tup: {failure}"));
     }
     hint::begin(rt, call.top, &status);
@@ -182,7 +182,7 @@ fn ended<P: Print + Eprint>(
     }
 }
 
-/// Tells of the first place where no file was found because something else stands there.
+/// Names the first place where no file was found because something else is there.
 fn tell_strange(rt: HostRuntime, site: &OnceSite<HostRuntime>) {
     if let Some(place) = site.strange() {
         // Words that can't be printed change nothing.
@@ -276,7 +276,7 @@ fn tell_faults(rt: HostRuntime, program: &Text, runners: &[ProcRunner<HostRuntim
     for runner in runners {
         if let Some(fault) = runner.last() {
             if before != Some(fault) && *fault != ProcFault::Told {
-                // Words that can't be printed change nothing: the exit number tells as much.
+                // Words that can't be printed change nothing: the exit number says as much.
                 drop(eprintln!(rt; "tup: {program}: {fault}"));
             }
             before = Some(fault);

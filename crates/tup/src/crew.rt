@@ -123,7 +123,7 @@ fn starter(
     Ok(ProcRunner::new(rt, alloc, root, program.clone()?, stages, kept))
 }
 
-/// A name that no other update of the project has: the time at which it begins, and the number of its process. It tells the program
+/// A name that no other update of the project has: the time at which it begins, and the number of its process. It says to the program
 /// that runs commands whether the update is quiet.
 fn update_name(rt: HostRuntime, alloc: Global, voice: Option<Voice>) -> Result<Text, AllocError> {
     let time = since_1970(&rt);

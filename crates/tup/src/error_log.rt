@@ -1,6 +1,6 @@
 //! Standard error as a sink, for the log of an update.
 //!
-//! It stands at the edge: what it holds, it doesn't tell; each write that failed is counted.
+//! It is at the edge: its contract says nothing of what it holds; each write that failed is counted.
 ghost use Rattle.std.specs.Prelude.{◌≡◌, [], false};
 
 use std::alloc::Global;
@@ -10,7 +10,7 @@ use tup_path::Bytes;
 use tup_progress::CLEAR;
 use tup_tell::{Sink, SinkFailed};
 
-/// Standard error. It tells nothing but its count of failed writes.
+/// Standard error. Its contract speaks of its count of failed writes alone.
 #[derive(Drop)]
 pub(crate) struct ErrorLog {
     rt: HostRuntime,
@@ -19,7 +19,7 @@ pub(crate) struct ErrorLog {
 }
 
 impl ErrorLog {
-    /// No write has failed yet. Before the first the line that stands there is taken away, if there may be one.
+    /// No write has failed yet. Before the first one the line that is there is cleared, if there may be one.
     pub(crate) fn new(rt: HostRuntime, clears: bool) -> ErrorLog
         ensures { result.faults ≡ 0 }
     {

@@ -13,7 +13,7 @@ const UNKNOWN: u8 = 127;
 /// What is to be done where there is no project.
 pub(crate) fn begin(rt: HostRuntime, top: &Top, status: &Status) {
     if let Status::NotInit = status {
-        // Words that can't be printed change nothing: the exit number tells as much.
+        // Words that can't be printed change nothing: the exit number says as much.
         drop(match top.root.as_str() {
             root if top.is_to_begin() => {
                 eprintln!(rt; "tup: `tup` begins the project of {root}/Tupfile.ini")
@@ -42,7 +42,7 @@ pub(crate) fn name_program(rt: HostRuntime, alloc: Global, status: &Status, othe
     } = status
     {
         if let Ok(Some(word)) = unknown_word(alloc, &rule.text) {
-            // Words that can't be printed change nothing: the exit number tells as much.
+            // Words that can't be printed change nothing: the exit number says as much.
             drop(eprintln!(rt; "tup: no such built-in command: {word}; {other}"));
         }
     }
@@ -53,7 +53,7 @@ pub(crate) fn name_program(rt: HostRuntime, alloc: Global, status: &Status, othe
 pub(crate) fn name_runner(rt: HostRuntime, status: &Status, program: &Option<Text>) {
     if let Some(program) = program {
         if is_of_commands(status) {
-            // Words that can't be printed change nothing: the exit number tells as much.
+            // Words that can't be printed change nothing: the exit number says as much.
             drop(eprintln!(rt;
                 "tup: `tup verify` runs the built-in commands alone, and {program} runs those of this project"
             ));
@@ -65,7 +65,7 @@ pub(crate) fn name_runner(rt: HostRuntime, status: &Status, program: &Option<Tex
 pub(crate) fn name_folder(rt: HostRuntime, status: &Status) {
     if let Status::RunFault = status {
         if !is_named_in_text(rt) {
-            // Words that can't be printed change nothing: the exit number tells as much.
+            // Words that can't be printed change nothing: the exit number says as much.
             drop(eprintln!(rt;
                 "tup: the path of this folder isn't UTF-8: a program that runs the commands may not be able to work in it"
             ));

@@ -52,7 +52,7 @@ fn failed(
     status: Status,
 ) -> u8 {
     if let Some(failure) = site.last() {
-        // Words that can't be printed change nothing: the exit number tells as much.
+        // Words that can't be printed change nothing: the exit number says as much.
         drop(eprintln!(rt; "tup: {failure}"));
     }
     hint::begin(rt, top, &status);

@@ -1,7 +1,7 @@
 //! `tup`, the program: words in, lines out, an exit number.
 //!
 //! All that it does is `tup_top::tup` over the real files below the working folder, and `tup_large::large` over
-//! files in memory. What stands here reads the words and writes to standard output, and to standard error what the
+//! files in memory. This crate reads the words and writes to standard output, and to standard error what the
 //! system said of a call that failed; it is tested, and proved to be safe, but it makes no promise of its own.
 #![tactic(auto)]
 
@@ -131,7 +131,7 @@ fn refuse_second(rt: HostRuntime, words: &[Word]) -> u8 {
 }
 
 /// Prints what is shown of a large project, and gives the exit number. A failure of the output is
-/// told where all else went well.
+/// reported if all else went well.
 fn show(rt: HostRuntime, large: tup_large::Shown) -> u8 {
     let tup_large::Shown { lines, status } = large;
     usage::explain_large(rt, &status);
@@ -438,7 +438,7 @@ pub(crate) fn shown(printed: io::Result<()>) -> u8 {
 
 /// Prints the line of a status that came before any update, and gives its exit number.
 pub(crate) fn told(rt: &impl Print, status: Status) -> u8 {
-    // A line that can't be printed changes nothing: the exit number tells as much.
+    // A line that can't be printed changes nothing: the exit number says as much.
     drop(println!(rt; "{status}"));
     status.exit()
 }

@@ -1,4 +1,4 @@
-//! Who else may have made what stands at the place of the store.
+//! Who else may have made the file at the place of the store.
 ghost use Rattle.std.specs.Prelude.{◌≡◌};
 ghost use Rattle.tup.specs.Makers as specs;
 
@@ -48,7 +48,7 @@ pub(crate) fn name_maker(rt: HostRuntime, alloc: Global, top: &Top) {
     if let Ok(store) = top.place(alloc, STORE) {
         if let Some(maker) = maker_at(rt, store.as_str()) {
             let said = said_of(maker);
-            // Words that can't be printed change nothing: the exit number tells as much.
+            // Words that can't be printed change nothing: the exit number says as much.
             drop(eprintln!(rt; "tup: {store} {said}"));
         }
     }

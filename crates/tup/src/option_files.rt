@@ -1,6 +1,6 @@
 //! The files that hold the options of a project, in its top folder.
 //!
-//! They are `.tup/options`, and behind it `Tupfile.ini`. They say how the site is used, so they are read
+//! They are `.tup/options` and, after it, `Tupfile.ini`. They say how the site is used, so they are read
 //! before there is one.
 use crate::options::{Fault, Options};
 use crate::own::Own;
@@ -14,7 +14,7 @@ use tup_fs::Syncs;
 use tup_path::Text;
 use tup_top::{Status, Word};
 
-/// The options of a project; or else the exit number, where the reason was told.
+/// The options of a project; or else the exit number, after the reason was printed.
 pub(crate) fn read(rt: HostRuntime, alloc: Global, top: &Top) -> Result<Options, u8> {
     let own = read_own(rt, alloc, top)?;
     if !top.is_shared {
@@ -56,7 +56,7 @@ fn read_file(rt: HostRuntime, alloc: Global, top: &Top, place: &str) -> Result<O
         Ok(text) => read_text(rt, alloc, top, place, text.as_str()),
         Err(e) if is_no_file(e.kind()) => Ok(Options::none()),
         Err(e) if e.kind() == ErrorKind::InvalidData => {
-            // Words that can't be printed change nothing: the exit number tells as much.
+            // Words that can't be printed change nothing: the exit number says as much.
             drop(eprintln!(rt; "tup: {place}: unknown word that isn't UTF-8"));
             Err(2)
         }
@@ -84,7 +84,7 @@ fn read_text(
         Ok(options) => Ok(options),
         Err(Fault::Memory) => Err(told(&rt, Status::Memory)),
         Err(fault) => {
-            // Words that can't be printed change nothing: the exit number tells as much.
+            // Words that can't be printed change nothing: the exit number says as much.
             drop(eprintln!(rt; "tup: {place}: {fault}"));
             Err(2)
         }
@@ -111,8 +111,8 @@ fn program_of(alloc: Global, top: &Top, program: Text) -> Result<Text, AllocErro
     Ok(Text::from_string(top.place(alloc, path)?))
 }
 
-/// Reads the options of a project that is to begin, which stand behind the word `init`; or else gives
-/// the exit number, where the reason was told.
+/// Reads the options of a project that is to begin, which follow the word `init`; or else gives
+/// the exit number, after the reason was printed.
 pub(crate) fn check(rt: HostRuntime, alloc: Global, words: &[Word]) -> Result<Options, u8> {
     let mut options = Options::none();
     let mut place = 2;
@@ -142,12 +142,12 @@ fn is_line(program: &str) -> bool {
     is_plain && !program.is_empty() && !program.starts_with('-') && !program.starts_with('#')
 }
 
-/// Prints that the word at a place of the call can't stand there.
+/// Prints that the word at a place of the call can't be there.
 fn refuse(rt: HostRuntime, fault: &Fault, place: u32) -> u8 {
     match fault {
         Fault::Memory => told(&rt, Status::Memory),
         _ => {
-            // Words that can't be printed change nothing: the exit number tells as much.
+            // Words that can't be printed change nothing: the exit number says as much.
             drop(eprintln!(rt; "tup: {fault}"));
             told(&rt, Status::Usage { place })
         }
@@ -155,8 +155,8 @@ fn refuse(rt: HostRuntime, fault: &Fault, place: u32) -> u8 {
 }
 
 /// Begins what is before the store of the project that is to begin: its own folder, and the options in it, a word a line. Where the
-/// project has begun and there are options, these are its options now, and the exit number is given, where that was told. Or else
-/// the exit number, where the reason was told.
+/// project has begun and there are options, these are its options now, and the exit number is given, after they were printed. Or else
+/// the exit number, after the reason was printed.
 pub(crate) fn begin(
     rt: HostRuntime,
     alloc: Global,
@@ -203,7 +203,7 @@ fn tell_options(rt: HostRuntime, alloc: Global, words: &[Word]) -> u8 {
     }
 }
 
-/// Prints which options stand at a place, where this text is to take their place and has others.
+/// Prints which options are at a place, if this text is to replace them and has others.
 fn tell_former(rt: HostRuntime, alloc: Global, place: &str, text: &str) -> Result<(), AllocError> {
     // What can't be read says nothing.
     if let Ok(former) = fs::read_to_string(&rt, place) {
@@ -216,7 +216,7 @@ fn tell_former(rt: HostRuntime, alloc: Global, place: &str, text: &str) -> Resul
     Ok(())
 }
 
-/// The lines of options in one, each behind a blank. Notes are left out.
+/// The lines of options in one, each after a blank. Comments are left out.
 fn in_a_line(alloc: Global, text: &str) -> Result<String, AllocError> {
     let mut line = String::new(alloc);
     for option in text.lines() {
@@ -244,7 +244,7 @@ fn failed(rt: HostRuntime, refused: Refused) -> u8 {
     match refused {
         Refused::Memory => told(&rt, Status::Memory),
         Refused::Failed(failure) => {
-            // Words that can't be printed change nothing: the exit number tells as much.
+            // Words that can't be printed change nothing: the exit number says as much.
             drop(eprintln!(rt; "tup: {failure}"));
             told(&rt, Status::SiteFault)
         }

@@ -39,11 +39,11 @@ pub(crate) struct Options {
     pub(crate) awaits_jobs: bool,
 }
 
-/// Why a word can't stand among options where it stands.
+/// Why a word can't be among options at its place.
 #[derive(Drop)]
 pub(crate) enum Fault {
     Unknown(Text),
-    /// The option stands before.
+    /// The option was there before.
     Twice(Text),
     /// The words end where a program has to follow.
     NoProgram,
@@ -61,8 +61,8 @@ impl fmt::Display for Fault {
         match self {
             Fault::Unknown(word) => write!(f, "unknown word {word}"),
             Fault::Twice(word) => write!(f, "a second {word}"),
-            Fault::NoProgram => f.write_str("no program behind --proc"),
-            Fault::NoJobs => f.write_str("no number from 1 to 16 behind -j"),
+            Fault::NoProgram => f.write_str("no program after --proc"),
+            Fault::NoJobs => f.write_str("no number from 1 to 16 after -j"),
             Fault::Both => f.write_str("--quiet and --verbose"),
             Fault::BothSyncs => f.write_str("--no-sync and --sync-once"),
             Fault::Memory => f.write_str("no memory"),
@@ -239,7 +239,7 @@ impl Options {
         }
     }
 
-    /// The options, where nothing is missing behind the last word.
+    /// The options, if nothing is missing after the last word.
     pub(crate) fn ended(self) -> Result<Options, Fault>
         ensures { IfOk result (λ options. options ≡ self) }
     {

@@ -1,6 +1,6 @@
 //! Standard output as a sink.
 //!
-//! It stands at the edge: what it holds, it doesn't tell; each write that failed is counted.
+//! It is at the edge: its contract says nothing of what it holds; each write that failed is counted.
 ghost use Rattle.std.specs.Prelude.{◌≡◌, [], false};
 
 use std::alloc::Global;
@@ -26,7 +26,7 @@ pub(crate) struct Counts {
     pub(crate) bad: u64,
 }
 
-/// Standard output. It tells nothing but its count of failed writes.
+/// Standard output. Its contract speaks of its count of failed writes alone.
 #[derive(Drop)]
 pub(crate) struct Output<'a, P: Print + Eprint> {
     to: &'a P,
@@ -39,7 +39,7 @@ pub(crate) struct Output<'a, P: Print + Eprint> {
 }
 
 impl<'a, P: Print + Eprint> Output<'a, P> {
-    /// The sink of a program's standard output. No write has failed yet. Before each the line that stands on standard error
+    /// The sink of a program's standard output. No write has failed yet. Before each the line that is on standard error
     /// is taken away, if there may be one.
     pub(crate) fn new(to: &'a P, clears: bool, lines: Lines) -> Output<'a, P>
         ensures { result.faults ≡ 0 }

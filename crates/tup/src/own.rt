@@ -1,6 +1,6 @@
-//! What stands in the program's own folder of a project beside the store: the options of this checkout, and what keeps others away.
+//! What is in the program's own folder of a project beside the store: the options of this checkout, and what keeps others away.
 //!
-//! Each place is looked at before it is opened, and no link in it is followed: so nothing that stands there can hang the program,
+//! Each place is looked at before it is opened, and no link in it is followed: so nothing that is there can hang the program,
 //! or have it read or write anything elsewhere.
 use crate::top::Top;
 use std::alloc::{AllocError, Global};
@@ -53,7 +53,7 @@ impl Own {
         self.has_file(self.options.as_str())
     }
 
-    /// Whether a regular file stands at a place in the folder. All else that stands there, or in the folder's place, is a failure.
+    /// Whether a regular file is at a place in the folder. Anything else there, or in the folder's place, is a failure.
     fn has_file(&self, place: &str) -> Result<bool, Refused> {
         if !self.stands()? {
             return Ok(false);
@@ -87,7 +87,7 @@ impl Own {
         Ok(())
     }
 
-    /// Has the options of this checkout be a text. Whatever stops this, either those of before stand there or these.
+    /// Has the options of this checkout be a text. Whatever stops this, the file has either the options of before or these.
     pub(crate) fn write_options(&self, text: &str) -> Result<(), Refused> {
         self.make()?;
         self.has_options()?;

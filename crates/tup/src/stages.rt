@@ -6,7 +6,7 @@ use tup_disk::{Held, Refused, own_folder, stages};
 use tup_top::Status;
 
 /// Looks at the folders that programs leave their files in, and that are emptied: each has to be the project's own. Or else gives
-/// the exit number, where the reason was told.
+/// the exit number, after the reason was printed.
 pub(crate) fn check(rt: HostRuntime, alloc: Global, top: &Top) -> Result<(), u8> {
     let root = top.root.as_str();
     match own_folder(&rt, alloc, root) {
@@ -16,7 +16,7 @@ pub(crate) fn check(rt: HostRuntime, alloc: Global, top: &Top) -> Result<(), u8>
     }
 }
 
-/// What a look at a folder came to.
+/// What a look at a folder answered.
 fn looked(rt: HostRuntime, answer: Result<Held, Refused>) -> Result<(), u8> {
     match answer {
         Ok(_held) => Ok(()),
@@ -29,7 +29,7 @@ fn refuse(rt: HostRuntime, refused: Refused) -> u8 {
     match refused {
         Refused::Memory => told(&rt, Status::Memory),
         Refused::Failed(failure) => {
-            // Words that can't be printed change nothing: the exit number tells as much.
+            // Words that can't be printed change nothing: the exit number says as much.
             drop(eprintln!(rt; "tup: {failure}"));
             told(&rt, Status::SiteFault)
         }

@@ -11,7 +11,7 @@ use std::io::ErrorKind;
 use std::os::unix::fs::MetadataExt;
 use tup_top::Status;
 
-/// The program's own folder, which stands in the top folder of each project.
+/// The program's own folder, in the top folder of each project.
 const OWN: &str = ".tup";
 
 /// The file that says that a project begins in its folder, and holds its options.
@@ -88,7 +88,7 @@ enum Search {
 
 /// The top folder: the working folder, or the first above it, that has a `.tup`; where none has
 /// one, the topmost with a `Tupfile.ini`; and where none has this either, the working folder. Or
-/// else the exit number, where the reason was told.
+/// else the exit number, after the reason was printed.
 pub(crate) fn find(rt: HostRuntime, alloc: Global) -> Result<Top, u8> {
     match look_upward(rt, alloc) {
         Ok(Search::Found(top)) => Ok(top),
@@ -100,7 +100,7 @@ pub(crate) fn find(rt: HostRuntime, alloc: Global) -> Result<Top, u8> {
 /// Tells of a project above the working folder that belongs to another user. What its files ask for
 /// runs only where it was called for in that folder.
 fn refuse(rt: HostRuntime, place: &str) -> u8 {
-    // Words that can't be printed change nothing: the exit number tells as much.
+    // Words that can't be printed change nothing: the exit number says as much.
     drop(eprintln!(rt; "tup: {place} belongs to another user: call tup in its folder"));
     told(&rt, Status::NotInit)
 }
@@ -174,7 +174,7 @@ fn is_trusted(level: usize, found: &Metadata) -> bool {
     level == 0 || found.uid() == libc::geteuid()
 }
 
-/// What stands at a place.
+/// What is at a place.
 #[derive(Drop)]
 enum Standing {
     Something(Metadata),
@@ -183,7 +183,7 @@ enum Standing {
     Unknown,
 }
 
-/// What stands at a place; no link is followed at its end.
+/// What is at a place; no link is followed at its end.
 fn found_at(rt: HostRuntime, place: &str) -> Standing {
     match fs::symlink_metadata(&rt, place) {
         Ok(found) => Standing::Something(found),

@@ -1,4 +1,4 @@
-//! What standard error says of a word that can't stand where it stands.
+//! What standard error says of a word that can't be where it is.
 use tup_top::{Status, Word};
 
 /// The orders.
@@ -23,7 +23,7 @@ const OPTIONS: [&str; 10] = [
 /// The length of the longest of these words.
 const LONGEST: u32 = 9;
 
-/// Says why a word can't stand there, where the status is that.
+/// Says why a word can't be there, if the status says so.
 pub(crate) fn explain(rt: HostRuntime, words: &[Word], status: &Status) {
     if let Status::Usage { place } = status {
         let at = (*place as usize).saturating_sub(1);
@@ -32,7 +32,7 @@ pub(crate) fn explain(rt: HostRuntime, words: &[Word], status: &Status) {
             Some(word) => word.0.as_str(),
             None => "",
         };
-        // Words that can't be printed change nothing: the exit number tells as much.
+        // Words that can't be printed change nothing: the exit number says as much.
         drop(match words.get(at) {
             Some(word) => of_word(rt, before, last, word.0.as_str()),
             None => of_none(rt, last),
@@ -43,7 +43,7 @@ pub(crate) fn explain(rt: HostRuntime, words: &[Word], status: &Status) {
 /// Says why a word couldn't be read, where the status is that.
 pub(crate) fn explain_unread(rt: HostRuntime, status: &Status) {
     if let Status::Usage { place } = status {
-        // Words that can't be printed change nothing: the exit number tells as much.
+        // Words that can't be printed change nothing: the exit number says as much.
         drop(eprintln!(rt; "tup: word {place} isn't UTF-8, or has more than 4096 bytes"));
     }
 }
@@ -51,7 +51,7 @@ pub(crate) fn explain_unread(rt: HostRuntime, status: &Status) {
 /// Says what has to follow `large`, where the status is that something else does.
 pub(crate) fn explain_large(rt: HostRuntime, status: &Status) {
     if let Status::Usage { .. } = status {
-        // Words that can't be printed change nothing: the exit number tells as much.
+        // Words that can't be printed change nothing: the exit number says as much.
         drop(eprintln!(rt; "tup: a number from 1 to 1000 has to follow large, and no other word"));
     }
 }

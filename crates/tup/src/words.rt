@@ -7,7 +7,7 @@ use tup_top::{Status, Word};
 // The length of a word in bytes that is still read.
 const LONGEST: usize = 4096;
 
-/// The words behind the program's name. One that is longer than 4096 bytes, or isn't UTF-8, is a usage fault.
+/// The words after the program's name. One that is longer than 4096 bytes, or isn't UTF-8, is a usage fault.
 pub(crate) fn words(rt: &impl Env, alloc: Global) -> Result<Vec<Word>, Status> {
     let mut words = Vec::new(alloc);
     let mut buffer = [0; LONGEST];
