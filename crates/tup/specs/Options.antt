@@ -57,11 +57,9 @@ abbrev pub with_joined : List ℕ → Option ℕ → Options → Result Options 
 with_joined word None options = Err (Unknown word)
 with_joined word (Some number) options = if is_some options.jobs then Err (Twice word) else Ok (record options { jobs = Some number })
 
--- options after a word that has to be an option; what can't be there is refused
+-- options after a word that has to be another option; what can't be there is refused
 abbrev pub with_option : List ℕ → Options → Result Options Fault
 with_option word options = if bytes_eq word (codes "--proc") then with_proc word options
-    else if bytes_eq word (codes "--no-sync") then with_syncs Skipped word options options.syncs
-    else if bytes_eq word (codes "--sync-once") then with_syncs Once word options options.syncs
     else if bytes_eq word (codes "--digest") then with_digest word options
     else if bytes_eq word (codes "-k") then with_keep_going word options
     else if bytes_eq word (codes "--quiet") then with_voice Quiet word options options.voice
@@ -69,11 +67,22 @@ with_option word options = if bytes_eq word (codes "--proc") then with_proc word
     else if bytes_eq word (codes "-j") then before_jobs word options
     else with_joined word (joined_jobs word) options
 
+-- when what is written is made durable, if a word says that
+abbrev pub syncs_in : List ℕ → Option Syncs
+syncs_in word = if bytes_eq word (codes "--no-sync") then Some Skipped
+    else if bytes_eq word (codes "--sync-once") then Some Once
+    else None
+
+-- options after an option's word, which says when what is written is made durable, or something else
+abbrev pub with_word : Option Syncs → List ℕ → Options → Result Options Fault
+with_word (Some syncs) word options = with_syncs syncs word options options.syncs
+with_word None word options = with_option word options
+
 -- options after one word more: what has to follow, or else an option
 abbrev pub added : List ℕ → Options → Result Options Fault
 added word options = if options.awaits_program then Ok (with_program word options)
     else if options.awaits_jobs then with_jobs (jobs_in word) options
-    else with_option word options
+    else with_word (syncs_in word) word options
 
 -- the first of two that says something
 abbrev pub first_said : {T : Type 0} → Option T → Option T → Option T

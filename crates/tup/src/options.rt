@@ -1,6 +1,7 @@
 //! The options of a project: words that hold for each update in it.
 ghost use Rattle.std.specs.Prelude.{◌≡◌, ◌⊎◌, Ok, Err, IfOk, IfErr, false};
 ghost use Rattle.tup.specs.Options.{added, behind, with_jobs, with_joined, with_option, with_syncs, with_voice};
+ghost use Rattle.tup.specs.Options as specs;
 ghost use Rattle.tup.specs.declared.options.Fault.TheVariants.{Memory};
 
 use std::alloc::{AllocError, AllocFailed, Global};
@@ -145,10 +146,13 @@ impl Options {
         if self.awaits_jobs {
             return self.take_jobs(jobs_in(word.as_bytes()));
         }
-        self.add_option(alloc, word)
+        match syncs_in(word) {
+            Some(syncs) => self.sync(alloc, word, syncs),
+            None => self.add_option(alloc, word),
+        }
     }
 
-    /// Reads a word that has to be an option.
+    /// Reads a word that has to be another option.
     fn add_option(&mut self, alloc: Global, word: &str) -> Result<(), Fault>
         requires { self.old.awaits_program ≡ false }
         ensures added { IfOk result (λ _. with_option word.now self.old ≡ Ok self.new) }
@@ -157,8 +161,6 @@ impl Options {
     {
         match word {
             "--proc" if self.program.is_none() => self.awaits_program = true,
-            "--no-sync" => return self.sync(alloc, word, Syncs::Skipped),
-            "--sync-once" => return self.sync(alloc, word, Syncs::Once),
             "--digest" if !self.digests => self.digests = true,
             "-k" if !self.keep_going => self.keep_going = true,
             "--quiet" => return self.speak(alloc, word, Voice::Quiet),
@@ -270,5 +272,16 @@ impl Options {
             awaits_program: false,
             awaits_jobs: false,
         }
+    }
+}
+
+/// When what is written is made durable, if a word says that.
+fn syncs_in(word: &str) -> Option<Syncs>
+    ensures { result ≡ specs.syncs_in word.now }
+{
+    match word {
+        "--no-sync" => Some(Syncs::Skipped),
+        "--sync-once" => Some(Syncs::Once),
+        _ => None,
     }
 }

@@ -56,7 +56,7 @@ impl<'a, P: Print + Eprint> Output<'a, P> {
 
     /// The same, but what is written to it waits until it is printed.
     pub fn waiting(self, alloc: Global) -> Output<'a, P>
-        ensures { result.faults ≡ self.faults }
+        ensures { result.faults ≡ self.entry.faults }
     {
         let mut output = self;
         output.held = Some(Vec::new(alloc));
