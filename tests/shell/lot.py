@@ -17,7 +17,8 @@ As root, some edits lay another file system over a folder of the project, or ano
 that meets a link to a folder fails by design: what comes of that isn't compared.
 
 Not drawn, as USING says that a command isn't run again for them: a folder that is listed and gets or loses a name, an empty folder or
-one that has only outputs, what is missed through a link into /proc that the command made and removed, modes, and names that tup doesn't see.
+one that has only outputs, what is missed through a link into /proc that the command made and removed, modes, that a folder can't be
+written since something is mounted there, and names that tup doesn't see.
 
 What went wrong is printed with its seed, and the history is kept as a file for --again and --small. The end is then 1.
 """
@@ -62,6 +63,8 @@ class Drawing:
         self.lot, self.tools, self.count = lot, tools, 0
         self.folders = sorted(lot.sample(FOLDERS, lot.randint(3, 8)))
         self.rules, self.listed = [], lot.random() < 0.4
+        # Where a command makes something.
+        self.makes = []
         # Half of what is asked for and edited is one of a few paths.
         self.few = [self.any_path() for _ in range(6)]
         # A file that one command reads slowly, if there is one.
@@ -172,6 +175,8 @@ class Drawing:
         if kind == 'realpath':
             # It goes round for ever at a link that leads below itself.
             return 'timeout 9 realpath %s' % at
+        if kind in ('mkdir', 'made'):
+            self.makes.append(path)
         if kind == 'mkdir':
             return 'mkdir %s && echo m%d && rmdir %s' % (at, n, at)
         if kind == 'made':
@@ -291,13 +296,17 @@ class Drawing:
             return [self.mounting(mounts, files, folders)]
         return self.edit(tree, mounts, rules) + self.edit(tree, mounts, rules)
 
+    def is_made_in(self, folder):
+        return any(it == folder or it.startswith(folder + '/') for it in self.makes)
+
     def mounting(self, mounts, files, folders):
         if mounts and self.lot.random() < 0.5:
             return ['unmount', self.lot.choice(mounts)]
-        free = [it for it in folders if not any(it == m or m.startswith(it + '/') or it.startswith(m + '/') for m in mounts)]
+        # Nothing is mounted above what a command makes: what is there can't be written, and that isn't tracked.
+        free = [it for it in folders if not self.is_made_in(it) and not any(it == m or m.startswith(it + '/') or it.startswith(m + '/') for m in mounts)]
         if files and self.lot.random() < 0.3:
             return ['over', self.lot.choice(files), 'over %d\n' % self.fresh()]
-        at = self.lot.choice(free or self.folders)
+        at = self.lot.choice(free or [it for it in self.folders if not self.is_made_in(it)] or ['mounted'])
         content = [[self.lot.choice(NAMES), 'mounted %d\n' % self.fresh()] for _ in range(self.lot.randint(1, 2))]
         return ['mount', at, self.lot.choice(['tmpfs', 'bind']), content]
 
@@ -393,7 +402,7 @@ class Place:
             self.cover(path, edit[2])
         elif verb == 'unmount':
             self.unmount(path)
-            self.prune(path)
+            self.prune(joined(path, 'what was mounted'))
 
     def clear(self, path):
         """Takes away what stands at a path, and each file or link that stands where a folder above it has to be."""
@@ -413,9 +422,11 @@ class Place:
         os.makedirs(os.path.dirname(place), exist_ok=True)
 
     def prune(self, path):
-        """Removes the folders above a path that have no file any more."""
+        """Removes the folders above a path that have no file any more, and takes away what is mounted at one."""
         above = os.path.dirname(path)
         while above and above != BELOW:
+            if above in self.mounts and not os.listdir(self.at(above)):
+                self.unmount(above)
             try:
                 os.rmdir(self.at(above))
             except OSError:

@@ -517,6 +517,13 @@ else
     again env || wrong "exit number $? with a pipe in its place: $(cat "$work/said")"
     rm "$root/.tup/mark" && again env && [ -c "$root/.tup/mark" ] || wrong 'it is not kept again'
 fi
+# begun: the command has made its file first.
+begun() {
+    for _ in $(seq 100); do
+        grep -qs '"first"' "$stage/trace" && break
+        sleep 0.1
+    done
+}
 # -- a stage that the next update takes while the command still runs stays the next one's
 text='a stage that is taken'
 all=$((all + 1))
@@ -524,7 +531,7 @@ project
 : > "$stage/own"
 "$sh" "$root" src "$stage" 'echo x >first; sleep 3; echo x >last' > "$work/said" 2>&1 &
 first=$!
-sleep 1.5
+begun
 rm -rf "$stage" 2> /dev/null || wrong 'it could not be removed'
 mkdir -p "$stage/up/src" && echo next > "$stage/up/src/next" && echo next > "$stage/trace" && echo next > "$stage/log" && : > "$stage/own"
 before=$(cd "$stage" && find . | sort)
@@ -541,7 +548,7 @@ project
 : > "$stage/own"
 "$sh" "$root" src "$stage" 'echo x >first; sleep 3; echo x >last' > "$work/said" 2>&1 &
 first=$!
-sleep 1
+begun
 rm -rf "$stage" 2> /dev/null || wrong 'it could not be removed'
 mkdir -p "$stage" && : > "$stage/own"
 "$sh" "$root" src "$stage" 'cat a; sleep 3; echo y >second' > "$work/other" 2>&1 || wrong "exit number $? of the second: $(cat "$work/other")"
