@@ -438,6 +438,8 @@ class Place:
             return
         self.unmount(old)
         self.clear(new)
+        # What was under a mount alone is an empty folder now, of which commands aren't told.
+        self.prune(joined(old, 'what was mounted'))
         if os.path.lexists(self.at(old)):
             shutil.move(self.at(old), self.at(new))
         self.prune(old)
