@@ -28,7 +28,7 @@ each() {
     while read -r folder; do cp "$work/lines" "$folder/Tupfile"; done < "$work/folders"
 }
 
-# all FORM: the form for each folder, which stands for #, in one line.
+# all FORM: the form for each folder, with its name for #, in one line.
 all() {
     awk -v form="$1" '{ text = form; gsub("#", $1, text); printf "%s ", text }' "$work/folders"
 }

@@ -8,7 +8,7 @@ set -u
 tup=$(realpath "$1")
 work=$(mktemp -d)
 trap 'cd /; rm -rf "$work"' EXIT
-# Where there is a C compiler the program's clock is an hour behind. So each file is too young to be noted in `.tup/stamps`, and that an
+# Where there is a C compiler the program's clock is an hour slow. So each file is too young to be noted in `.tup/stamps`, and that an
 # update with nothing to do writes nothing holds also where a minute passes between two rows.
 if cc -shared -fPIC -O1 -o "$work/clock.so" "$(dirname "$0")/../faults/clock.c" 2> /dev/null; then
     export LD_PRELOAD="$work/clock.so" CLOCK_AHEAD=-3600

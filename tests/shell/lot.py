@@ -438,7 +438,7 @@ class Place:
             return
         self.unmount(old)
         self.clear(new)
-        # What was under a mount alone is an empty folder now, of which commands aren't told.
+        # What was under a mount alone is an empty folder now, and commands don't learn of those.
         self.prune(joined(old, 'what was mounted'))
         if os.path.lexists(self.at(old)):
             shutil.move(self.at(old), self.at(new))

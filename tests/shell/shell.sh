@@ -430,7 +430,7 @@ if command -v gcc > /dev/null; then
     try 's.o' 'gcc -c s.c -o s.o; realpath nope' 'R s.c,A s.o,A s.c.gch,A h.h.gch,R h.h,A nope,W s.o,E 0'
 fi
 
-# -- file systems in the project, and other places where it stands. Root of a namespace of users can mount them, but can't lay an
+# -- file systems in the project, and other places where it is mounted. Root of a namespace of users can mount them, but can't lay an
 # overlay over them: commands are refused there, which a row below sees.
 if [ "$(id -u)" = 0 ] && ! grep -q '^ *0 *0 *4294967295$' /proc/self/uid_map; then
     echo 'passed over: file systems in the project, for root of a namespace of users can lay no overlay over them'
